@@ -1,0 +1,20 @@
+use mathlib.Core.Path.{sym, _∙_}
+use Rattle.model.specs.Bus.{commandWrite}
+use borrow.Author.Needs.{needs}
+use Rattle.model.proofs.Controller.command_write.Statement.{statement}
+use Rattle.model.proofs.Controller.command_write.Tie as tie
+
+pub command-write-spec : {M : Type 1} → statement M
+unfolding commandWrite
+command-write-spec =
+    tie.close
+    (tie.spec
+    (λ c κs. search needs)
+    (λ c κs. search needs)
+    (λ c κs. search needs)
+    (λ c. let p = c .before .before in λ memory. rw (c .ended .ensures, ← p .before .of .ensures, sym (p .is .ensures) ∙ c .before .if1 .taken))
+    (λ c κs. search needs)
+    (λ c κs. search needs)
+    (λ c. let p = c .before .before .before in λ memory. rw (c .ended2 .ensures, ← p .before .before .of .ensures, sym (p .before .is .ensures) ∙ p .if1 .left, sym (c .before .before .is-ignored .ensures) ∙ c .before .if2 .taken))
+    (λ c κs. search needs)
+    (λ c. let p = c .before .before .before in λ memory. rw (c .begin .ensures, ← p .before .before .of .ensures, sym (p .before .is .ensures) ∙ p .if1 .left, sym (c .before .before .is-ignored .ensures) ∙ c .before .if2 .left)))

@@ -1,0 +1,176 @@
+// Calls of the bus.
+use crate::Controller;
+use crate::MEMORY_SIZE;
+use crate::Pending;
+use crate::Read;
+use crate::Written;
+use registers::Answer;
+use registers::Command;
+use registers::ReadAnswer;
+use registers::Refusal;
+use registers::Registers;
+ghost use Prim.Native.Nat.{ℕ};
+ghost use mathlib.Core.List.{List};
+ghost use mathlib.Core.Path.{_≡_};
+ghost use Rattle.model.specs.Machine.{resetController, machine, written, read, ended};
+ghost use Rattle.model.specs.Bus.{ignored, served, commandWrite, dataWrite, cursorReads, addressByte, dataRead};
+
+// Whether a command is neither taken nor served: asleep, any but SYSTEM SET.
+fn is_ignored(command: Command, asleep: bool) -> bool
+    ensures { λ r. ⌜ r ≡ ignored command asleep ⌝ }
+{
+    if command.is(Command::SystemSet) {
+        false
+    } else {
+        asleep
+    }
+}
+
+// How many reads a command gives, but for MREAD, whose reads have no end.
+fn reads(command: Command) -> u8
+    ensures { λ r. ⌜ r ≡ cursorReads command ⌝ }
+{
+    if command.is(Command::Csrr) { 2 } else { 0 }
+}
+
+// The byte of the cursor address that CSRR's read at a place gives.
+fn address_byte(address: u16, place: u8) -> u8
+    ensures { λ r. ⌜ r ≡ addressByte address place ⌝ }
+{
+    if place == 0 {
+        (address % 256) as u8
+    } else {
+        (address / 256) as u8
+    }
+}
+
+impl Controller {
+    pub fn reset() -> Controller
+        ensures { λ r. ⌜ r ≡ resetController ⌝ }
+    {
+        Controller {
+            registers: Registers::reset(),
+            pending: Pending {
+                command: Command::None,
+                place: 0,
+            },
+        }
+    }
+
+    // The pending command ended.
+    fn ended(mut self) -> Controller
+        ensures { λ r. ⌜ r ≡ ended self ⌝ }
+    {
+        let pending = Pending {
+            command: Command::None,
+            place: 0,
+        };
+        self.pending = pending;
+        self
+    }
+
+    // The pending command that data writes and reads go to.
+    fn served(self) -> Command
+        ensures { λ r. ⌜ r ≡ served self ⌝ }
+    {
+        let pending = self.pending;
+        let command = pending.command;
+        if is_ignored(command, self.registers.asleep) {
+            Command::None
+        } else {
+            command
+        }
+    }
+
+    pub fn command_write(mut self, b: u8) -> Written
+        ensures { λ r. ⌜ ((memory : List ℕ) → written r memory ≡ commandWrite (machine self memory) b) ⌝ }
+    {
+        let command = Command::of(b);
+        if command.is(Command::None) {
+            return Written {
+                controller: self.ended(),
+                answer: Answer::Refused(Refusal::UnknownCommand),
+            };
+        }
+        if is_ignored(command, self.registers.asleep) {
+            return Written {
+                controller: self.ended(),
+                answer: Answer::Refused(Refusal::Asleep),
+            };
+        }
+        let pending = Pending {
+            command: command,
+            place: 0,
+        };
+        self.pending = pending;
+        self.registers = self.registers.begin(command, b);
+        Written {
+            controller: self,
+            answer: Answer::Accepted,
+        }
+    }
+
+    pub fn data_write(mut self, memory: &mut [u8], b: u8) -> Written
+        ensures { λ r. ⌜ written r (now (memory .exit)) ≡ dataWrite (machine self (now (memory .entry))) b ⌝ }
+    {
+        if memory.len() != MEMORY_SIZE {
+            return Written {
+                controller: self,
+                answer: Answer::Refused(Refusal::MemorySize),
+            };
+        }
+        let command = self.served();
+        if command.is(Command::Mwrite) {
+            return self.write_memory(memory, b);
+        }
+        let place = self.pending.place;
+        if command.parameters() <= place {
+            return Written {
+                controller: self,
+                answer: Answer::Refused(Refusal::NothingWanted),
+            };
+        }
+        if command.allows(place, b) {
+            let next = place + 1;
+            self.pending.place = next;
+            self.registers = self.registers.store(command, place, b);
+            return Written {
+                controller: self,
+                answer: Answer::Accepted,
+            };
+        }
+        Written {
+            controller: self.ended(),
+            answer: Answer::Refused(Refusal::NotAllowed),
+        }
+    }
+
+    pub fn data_read(mut self, memory: &[u8]) -> Read
+        ensures { λ r. ⌜ read r (now (memory .entry)) ≡ dataRead (machine self (now (memory .entry))) ⌝ }
+    {
+        if memory.len() != MEMORY_SIZE {
+            return Read {
+                controller: self,
+                answer: ReadAnswer::Refused(Refusal::MemorySize),
+            };
+        }
+        let command = self.served();
+        if command.is(Command::Mread) {
+            return self.read_memory(memory);
+        }
+        let place = self.pending.place;
+        if reads(command) <= place {
+            return Read {
+                controller: self,
+                answer: ReadAnswer::Refused(Refusal::NothingToRead),
+            };
+        }
+        let next = place + 1;
+        let value = address_byte(self.registers.cursor.address, place);
+        self.pending.place = next;
+        Read {
+            controller: self,
+            answer: ReadAnswer::Value(value),
+        }
+    }
+}

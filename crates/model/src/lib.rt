@@ -1,0 +1,34 @@
+// One S1D13700 in indirect mode: a controller by value beside display memory that the caller lends.
+mod bus;
+mod memory;
+
+use registers::Answer;
+use registers::Command;
+use registers::ReadAnswer;
+use registers::Registers;
+
+// How many bytes of display memory there are.
+pub const MEMORY_SIZE: usize = 32768;
+
+// The pending command, and how many of its parameters or reads were taken.
+pub struct Pending {
+    pub command: Command,
+    pub place: u8,
+}
+
+pub struct Controller {
+    pub registers: Registers,
+    pub pending: Pending,
+}
+
+// What a command write or a data write leaves and answers.
+pub struct Written {
+    pub controller: Controller,
+    pub answer: Answer,
+}
+
+// What a data read leaves and answers.
+pub struct Read {
+    pub controller: Controller,
+    pub answer: ReadAnswer,
+}

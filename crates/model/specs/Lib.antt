@@ -1,2 +1,5 @@
 pub mod Machine
 pub mod Bus
+pub mod Calls
+pub mod Refresh
+pub mod Demand

@@ -5,9 +5,9 @@ use native.Mathlib.Omega.{arith}
 use Rattle.registers.specs.Parameters.{withLow, withHigh}
 
 -- a register of which both bytes came does not depend on what it was
-pub both-bytes : (x : ℕ) {low : ℕ} (high : ℕ) → low < 256 → withHigh (withLow x low) high ≡ withHigh (withLow 0 low) high
+pub both-bytes : {low : ℕ} → low < 256 → (high x : ℕ) → withHigh (withLow x low) high ≡ high * 256 + low
 unfolding withLow withHigh
-both-bytes x high h = omega arith
+both-bytes h high x = omega arith
 
 -- what `wrapping_sub_u16` ensures, as the difference modulo 65,536
 pub wraps-down : (a b r : ℕ) → a < 65536 → b < 65536 → r < 65536 → (r + b) % 2 ^ 16 ≡ a → r ≡ (a + 65536 - b) % 65536

@@ -1,0 +1,218 @@
+-- Demand 3, first part: whatever came before, a full refresh leads to one and the same machine.
+use Prim.Native.Nat.{ℕ, suc, _+_, _*_, _<_}
+use mathlib.Core.Bool.{Bool, true, false, not, _&&_, _||_}
+use mathlib.Core.List.{List, [], _∷_, _++_, map, append-assoc}
+use mathlib.Core.Path.{_≡_, refl, sym, ap, subst, _∙_}
+use native.Mathlib.Omega.{arith}
+use lib.ListN.{length, getD}
+use Rattle.registers.specs.declared.Command.{Command}
+use Rattle.registers.specs.declared.Command.the-variants.{None, SystemSet, SleepIn, Disp, Scroll, CsrForm, CsrDir, Ovlay, CgramAdr, HdotScr, GrayScale, Csrw, Csrr, Mwrite, Mread}
+use Rattle.registers.specs.declared.Direction.the-variants.{Right}
+use Rattle.registers.specs.declared.Registers.{Registers}
+use Rattle.registers.specs.Choice.{if_then_else_}
+use Rattle.registers.specs.Commands.{commandOf, _is_, parameters}
+use Rattle.registers.specs.Parameters.{begin, store, storeSystem, storeDisplay, storeBlocks, storeForm, storeOverlay, directionOf, withLow, withHigh, resetRegisters}
+use Rattle.registers.proofs.Words.{both-bytes}
+use Rattle.model.specs.declared.Pending.{Pending}
+use Rattle.model.specs.declared.Controller.{Controller}
+use Rattle.model.specs.Machine.{Machine, Outcome, machine, accept, controller}
+use Rattle.model.specs.Bus.{ignored}
+use Rattle.model.specs.Calls.{BusCall, command, call, after, trace, reset}
+use Rattle.model.specs.Refresh.{All, count, nine, eleven, Refresh, opcode, send, sends, sent}
+use Rattle.model.specs.Demand.{Accepted, Prior, reached, RefreshSettles}
+use Rattle.model.proofs.Runs.{Runs, runs-none, runs-cons, runs-append, runs-to, after-size}
+use Rattle.model.proofs.Steps.{Takes, takes-awake, begun, stores, parameters-run, at, writing, filled}
+use Rattle.model.proofs.Seen.{none, also, adds, adds-counted, all-counted}
+
+-- the ten before MWRITE
+abbrev pub Ten : Command → Type 0
+Ten c = 0 < count c (SystemSet ∷ nine)
+
+module _ (r : Refresh) where
+  opcode-on : (on : Bool) → commandOf (if on then 0x59 else 0x58) ≡ Disp
+  unfolding commandOf
+  opcode-on true = refl
+  opcode-on false = refl
+
+  record Plain (c : Command) : Type 0 where
+    known : commandOf (opcode r c) ≡ c
+    some : (c is None) ≡ false
+    no-memory : (c is Mwrite) ≡ false
+    no-sleep : (c is SleepIn) ≡ false
+
+  plain : (c : Command) → Ten c → Plain c
+  unfolding commandOf
+  plain None h = absurd (omega arith)
+  plain SystemSet h = record { known = refl; some = refl; no-memory = refl; no-sleep = refl }
+  plain SleepIn h = absurd (omega arith)
+  plain Disp h = record { known = opcode-on (r .on); some = refl; no-memory = refl; no-sleep = refl }
+  plain Scroll h = record { known = refl; some = refl; no-memory = refl; no-sleep = refl }
+  plain CsrForm h = record { known = refl; some = refl; no-memory = refl; no-sleep = refl }
+  plain CsrDir h = record { known = refl; some = refl; no-memory = refl; no-sleep = refl }
+  plain Ovlay h = record { known = refl; some = refl; no-memory = refl; no-sleep = refl }
+  plain CgramAdr h = record { known = refl; some = refl; no-memory = refl; no-sleep = refl }
+  plain HdotScr h = record { known = refl; some = refl; no-memory = refl; no-sleep = refl }
+  plain GrayScale h = record { known = refl; some = refl; no-memory = refl; no-sleep = refl }
+  plain Csrw h = record { known = refl; some = refl; no-memory = refl; no-sleep = refl }
+  plain Csrr h = absurd (omega arith)
+  plain Mwrite h = absurd (omega arith)
+  plain Mread h = absurd (omega arith)
+
+  -- the registers after a command with all its parameters
+  abbrev pub put : Command → Registers → Registers
+  put c x = stores c 0 (parameters c) (r .values c) (begin c (opcode r c) x)
+
+  command-run : (c : Command) → Ten c → (s : Controller) (memory : List ℕ) → length memory ≡ 32768 → Takes c (s .registers)
+      → Runs Accepted (machine s memory) (send r c) (machine (controller (put c (s .registers)) c (parameters c)) memory)
+  unfolding begin
+  command-run c h s memory full t =
+      let p = plain c h in
+      rw (p .no-memory)
+      (runs-cons (begun c (opcode r c) (p .known) (p .some) s memory t) refl
+      (parameters-run c (p .no-memory) 0 (parameters c) (omega arith) (r .values c) (begin c (opcode r c) (s .registers)) memory full (rw (p .no-sleep) t)))
+
+  -- what the ten set, each its own fields
+  abbrev pub settled : Registers
+  settled =
+      record {
+        system = put SystemSet resetRegisters .system;
+        display = put Disp resetRegisters .display;
+        blocks = put Scroll resetRegisters .blocks;
+        form = put CsrForm resetRegisters .form;
+        overlay = put Ovlay resetRegisters .overlay;
+        cgram = put CgramAdr resetRegisters .cgram;
+        hdot = put HdotScr resetRegisters .hdot;
+        gray = put GrayScale resetRegisters .gray;
+        cursor = record { address = 0; direction = Right };
+        asleep = false;
+      }
+
+  -- after some of the ten, from x: what they set, and x for the rest
+  abbrev pub mix : (Command → Bool) → Registers → Registers
+  mix seen x =
+      record {
+        system = if seen SystemSet then settled .system else x .system;
+        display = if seen Disp then settled .display else x .display;
+        blocks = if seen Scroll then settled .blocks else x .blocks;
+        form = if seen CsrForm then settled .form else x .form;
+        overlay = if seen Ovlay then settled .overlay else x .overlay;
+        cgram = if seen CgramAdr then settled .cgram else x .cgram;
+        hdot = if seen HdotScr then settled .hdot else x .hdot;
+        gray = if seen GrayScale then settled .gray else x .gray;
+        cursor =
+            record {
+              address = if seen Csrw then settled .cursor .address else x .cursor .address;
+              direction = if seen CsrDir then settled .cursor .direction else x .cursor .direction;
+            };
+        asleep = if seen SystemSet then settled .asleep else x .asleep;
+      }
+
+  put-mix : (c : Command) → Ten c → (seen : Command → Bool) (x : Registers) → put c (mix seen x) ≡ mix (also c seen) x
+  unfolding begin store storeSystem storeDisplay storeBlocks storeForm storeOverlay directionOf
+  put-mix None h seen x = absurd (omega arith)
+  put-mix SystemSet h seen x = let v = r .values SystemSet in simp (both-bytes (v .3 .3 .3 .3 .3 .3 .1))
+  put-mix SleepIn h seen x = absurd (omega arith)
+  put-mix Disp h seen x = refl
+  put-mix Scroll h seen x =
+      let v = r .values Scroll in
+      simp (both-bytes (v .1), both-bytes (v .3 .3 .3 .1), both-bytes (v .3 .3 .3 .3 .3 .3 .1), both-bytes (v .3 .3 .3 .3 .3 .3 .3 .3 .1))
+  put-mix CsrForm h seen x = refl
+  put-mix CsrDir h seen x = refl
+  put-mix Ovlay h seen x = refl
+  put-mix CgramAdr h seen x = simp (both-bytes (r .values CgramAdr .1))
+  put-mix HdotScr h seen x = refl
+  put-mix GrayScale h seen x = refl
+  put-mix Csrw h seen x =
+      let v = r .values Csrw in
+      let low : v .0 ≡ 0 = ap (λ (l : List ℕ). getD l 0 0) (r .home) in
+      let high : v .3 .0 ≡ 0 = ap (λ (l : List ℕ). getD l 1 0) (r .home) in
+      simp (both-bytes (v .1)) (rw (low, high))
+  put-mix Csrr h seen x = absurd (omega arith)
+  put-mix Mwrite h seen x = absurd (omega arith)
+  put-mix Mread h seen x = absurd (omega arith)
+
+  awake-also : (c : Command) (seen : Command → Bool) (x : Registers) → mix seen x .asleep ≡ false → mix (also c seen) x .asleep ≡ false
+  awake-also c seen x = go (SystemSet is c) (seen SystemSet)
+    where
+      go : (t s : Bool) → (if s then false else x .asleep) ≡ false → (if t || s then false else x .asleep) ≡ false
+      go true s h = refl
+      go false s h = h
+
+  -- some of the ten in any order, awake
+  pub mix-run : (cs : List Command) → All Ten cs → (seen : Command → Bool) (x : Registers) (pending : Pending) (memory : List ℕ) → length memory ≡ 32768 → mix seen x .asleep ≡ false
+      → (pending′ : Pending)
+      × Runs Accepted (machine (record { registers = mix seen x; pending = pending }) memory) (sends r cs) (machine (record { registers = mix (adds cs seen) x; pending = pending′ }) memory)
+      × (mix (adds cs seen) x .asleep ≡ false)
+  mix-run [] h seen x pending memory full a = (pending, runs-none, a)
+  mix-run (c ∷ cs) h seen x pending memory full a =
+      let now = command-run c (h .0) (record { registers = mix seen x; pending = pending }) memory full (takes-awake c (mix seen x) a) in
+      let later = mix-run cs (h .1) (also c seen) x (record { command = c; place = parameters c }) memory full (awake-also c seen x a) in
+      (later .0, runs-append (send r c) (runs-to (ap (λ (y : Registers). machine (controller y c (parameters c)) memory) (put-mix c (h .0) seen x)) now) (later .1), later .2)
+
+  -- and SYSTEM SET before them, awake or not
+  pub first-run : (cs : List Command) → All Ten cs → (s : Controller) (memory : List ℕ) → length memory ≡ 32768
+      → (pending′ : Pending)
+      × Runs Accepted (machine s memory) (sends r (SystemSet ∷ cs)) (machine (record { registers = mix (adds (SystemSet ∷ cs) none) (s .registers); pending = pending′ }) memory)
+      × (mix (adds (SystemSet ∷ cs) none) (s .registers) .asleep ≡ false)
+  unfolding ignored
+  first-run cs h s memory full =
+      let now = command-run SystemSet (omega arith) s memory full refl in
+      let later = mix-run cs h (also SystemSet none) (s .registers) (record { command = SystemSet; place = parameters SystemSet }) memory full refl in
+      (later .0, runs-append (send r SystemSet) (runs-to (ap (λ (y : Registers). machine (controller y SystemSet (parameters SystemSet)) memory) (put-mix SystemSet (omega arith) none (s .registers))) now) (later .1), later .2)
+
+  pub order-ten : All Ten (r .order)
+  order-ten = all-counted Ten (r .order) (λ c h. go c (c is SystemSet) refl (subst (λ (n : ℕ). 0 < n) (r .once c) h))
+    where
+      go : (c : Command) (t : Bool) → (c is SystemSet) ≡ t → 0 < count c nine → Ten c
+      go c true e h = rw e (omega arith)
+      go c false e h = rw e h
+
+  mix-all : (seen : Command → Bool) (x : Registers) → ((c : Command) → Ten c → seen c ≡ true) → mix seen x ≡ settled
+  mix-all seen x h =
+      rw (h SystemSet (omega arith), h Disp (omega arith), h Scroll (omega arith), h CsrForm (omega arith), h Ovlay (omega arith), h CgramAdr (omega arith), h HdotScr (omega arith), h GrayScale (omega arith), h Csrw (omega arith), h CsrDir (omega arith))
+
+  pub write-begun : (x : Registers) (pending : Pending) (memory : List ℕ) → x .asleep ≡ false
+      → call (machine (record { registers = x; pending = pending }) memory) (command 0x42) ≡ accept (controller x Mwrite 0) memory
+  unfolding commandOf begin
+  write-begun x pending memory a = begun Mwrite 0x42 refl refl (record { registers = x; pending = pending }) memory (takes-awake Mwrite x a)
+
+  sends-append : (cs ds : List Command) → sends r (cs ++ ds) ≡ sends r cs ++ sends r ds
+  sends-append [] ds = refl
+  sends-append (c ∷ cs) ds = ap (λ (l : List BusCall). send r c ++ l) (sends-append cs ds) ∙ sym (append-assoc (send r c) (sends r cs) (sends r ds))
+
+  pub runs-sends : {P : Outcome → Type 0} {m m′ m″ : Machine} (cs ds : List Command) → Runs P m (sends r cs) m′ → Runs P m′ (sends r ds) m″ → Runs P m (sends r (cs ++ ds)) m″
+  runs-sends {P} {m} {m″ = m″} cs ds h k = subst (λ (l : List BusCall). Runs P m l m″) (sym (sends-append cs ds)) (runs-append (sends r cs) h k)
+
+  -- the one machine that the refresh leads to
+  abbrev pub image : Machine
+  image = writing settled (length (r .memory)) (r .memory)
+
+  pub refreshed : (s : Controller) (memory : List ℕ) → length memory ≡ 32768 → Runs Accepted (machine s memory) (sent r) image
+  refreshed s memory full =
+      let t = first-run (r .order) order-ten s memory full in
+      runs-sends (SystemSet ∷ r .order) (Mwrite ∷ []) (t .1)
+      (subst (λ (x : Registers). Runs Accepted (machine (record { registers = x; pending = t .0 }) memory) (sends r (Mwrite ∷ [])) image)
+      (sym (mix-all (adds (SystemSet ∷ r .order) none) (s .registers) all-seen))
+      (runs-append (send r Mwrite)
+      (runs-cons (write-begun settled (t .0) memory refl) refl (filled settled refl refl [] memory (r .memory) (full ∙ sym (r .memory-full)) full)) runs-none))
+    where
+      all-seen : (c : Command) → Ten c → adds (SystemSet ∷ r .order) none c ≡ true
+      all-seen c h = adds-counted (SystemSet ∷ r .order) none c (go (c is SystemSet) refl)
+        where
+          go : (t : Bool) → (c is SystemSet) ≡ t → 0 < count c (SystemSet ∷ r .order)
+          go true e = rw e (omega arith)
+          go false e = rw (e, r .once c) (rw e at h)
+
+pub settles : RefreshSettles
+settles p₁ p₂ r later =
+    let m₁ = reached p₁ in
+    let m₂ = reached p₂ in
+    let h₁ = refreshed r (m₁ .controller) (m₁ .memory) (after-size (reset (p₁ .memory)) (p₁ .calls) ∙ p₁ .memory-full) in
+    let h₂ = refreshed r (m₂ .controller) (m₂ .memory) (after-size (reset (p₂ .memory)) (p₂ .calls) ∙ p₂ .memory-full) in
+    let e = h₁ .leads ∙ sym (h₂ .leads) in
+    record {
+      accepted₁ = h₁ .answered;
+      accepted₂ = h₂ .answered;
+      equal = e;
+      equal-later = ap (λ (m : Machine). trace m later) e;
+    }

@@ -22,41 +22,41 @@ use Rattle.model.specs.Refresh.{All, count, nine, eleven, Refresh, opcod
 use Rattle.model.specs.Demand.{Accepted, Prior, reached, RefreshSettles}
 use Rattle.model.proofs.Runs.{Runs, runs-none, runs-cons, runs-append, runs-to, after-size}
 use Rattle.model.proofs.Steps.{Takes, takes-awake, begun, stores, parameters-run, at, writing, filled}
+use Rattle.model.proofs.Ten.{Ten, of-ten}
 use Rattle.model.proofs.Seen.{none, also, adds, adds-counted, all-counted}
 
--- the ten before MWRITE
-abbrev pub Ten : Command → Type 0
-Ten c = 0 < count c (SystemSet ∷ nine)
-
 module _ (r : Refresh) where
+  -- a command that is known, and neither SLEEP IN nor MWRITE
+  record Plain (c : Command) : Type 0 where
+    known : commandOf (opcode r c) ≡ c
+    some : (c is None) ≡ false
+    no-sleep : (c is SleepIn) ≡ false
+    no-memory : (c is Mwrite) ≡ false
+
+  plain-of : (c : Command) → commandOf (opcode r c) ≡ c → (c is None) ≡ false → (c is SleepIn) ≡ false → (c is Mwrite) ≡ false → Plain c
+  plain-of c k s n m = record { known = k; some = s; no-sleep = n; no-memory = m }
+
   opcode-on : (on : Bool) → commandOf (if on then 0x59 else 0x58) ≡ Disp
   unfolding commandOf
   opcode-on true = refl
   opcode-on false = refl
 
-  record Plain (c : Command) : Type 0 where
-    known : commandOf (opcode r c) ≡ c
-    some : (c is None) ≡ false
-    no-memory : (c is Mwrite) ≡ false
-    no-sleep : (c is SleepIn) ≡ false
-
   plain : (c : Command) → Ten c → Plain c
   unfolding commandOf
-  plain None h = absurd (omega arith)
-  plain SystemSet h = record { known = refl; some = refl; no-memory = refl; no-sleep = refl }
-  plain SleepIn h = absurd (omega arith)
-  plain Disp h = record { known = opcode-on (r .on); some = refl; no-memory = refl; no-sleep = refl }
-  plain Scroll h = record { known = refl; some = refl; no-memory = refl; no-sleep = refl }
-  plain CsrForm h = record { known = refl; some = refl; no-memory = refl; no-sleep = refl }
-  plain CsrDir h = record { known = refl; some = refl; no-memory = refl; no-sleep = refl }
-  plain Ovlay h = record { known = refl; some = refl; no-memory = refl; no-sleep = refl }
-  plain CgramAdr h = record { known = refl; some = refl; no-memory = refl; no-sleep = refl }
-  plain HdotScr h = record { known = refl; some = refl; no-memory = refl; no-sleep = refl }
-  plain GrayScale h = record { known = refl; some = refl; no-memory = refl; no-sleep = refl }
-  plain Csrw h = record { known = refl; some = refl; no-memory = refl; no-sleep = refl }
-  plain Csrr h = absurd (omega arith)
-  plain Mwrite h = absurd (omega arith)
-  plain Mread h = absurd (omega arith)
+  plain =
+      of-ten Plain
+      (record {
+        system-set = plain-of SystemSet refl refl refl refl;
+        scroll = plain-of Scroll refl refl refl refl;
+        csr-form = plain-of CsrForm refl refl refl refl;
+        csr-dir = plain-of CsrDir refl refl refl refl;
+        ovlay = plain-of Ovlay refl refl refl refl;
+        cgram-adr = plain-of CgramAdr refl refl refl refl;
+        hdot-scr = plain-of HdotScr refl refl refl refl;
+        gray-scale = plain-of GrayScale refl refl refl refl;
+        disp = plain-of Disp (opcode-on (r .on)) refl refl refl;
+        csrw = plain-of Csrw refl refl refl refl;
+      })
 
   -- the registers after a command with all its parameters
   abbrev pub put : Command → Registers → Registers
@@ -109,27 +109,27 @@ module _ (r : Refresh) where
 
   put-mix : (c : Command) → Ten c → (seen : Command → Bool) (x : Registers) → put c (mix seen x) ≡ mix (also c seen) x
   unfolding begin store storeSystem storeDisplay storeBlocks storeForm storeOverlay directionOf
-  put-mix None h seen x = absurd (omega arith)
-  put-mix SystemSet h seen x = let v = r .values SystemSet in simp (both-bytes (v .3 .3 .3 .3 .3 .3 .1))
-  put-mix SleepIn h seen x = absurd (omega arith)
-  put-mix Disp h seen x = refl
-  put-mix Scroll h seen x =
-      let v = r .values Scroll in
-      simp (both-bytes (v .1), both-bytes (v .3 .3 .3 .1), both-bytes (v .3 .3 .3 .3 .3 .3 .1), both-bytes (v .3 .3 .3 .3 .3 .3 .3 .3 .1))
-  put-mix CsrForm h seen x = refl
-  put-mix CsrDir h seen x = refl
-  put-mix Ovlay h seen x = refl
-  put-mix CgramAdr h seen x = simp (both-bytes (r .values CgramAdr .1))
-  put-mix HdotScr h seen x = refl
-  put-mix GrayScale h seen x = refl
-  put-mix Csrw h seen x =
-      let v = r .values Csrw in
-      let low : v .0 ≡ 0 = ap (λ (l : List ℕ). getD l 0 0) (r .home) in
-      let high : v .3 .0 ≡ 0 = ap (λ (l : List ℕ). getD l 1 0) (r .home) in
-      simp (both-bytes (v .1)) (rw (low, high))
-  put-mix Csrr h seen x = absurd (omega arith)
-  put-mix Mwrite h seen x = absurd (omega arith)
-  put-mix Mread h seen x = absurd (omega arith)
+  put-mix =
+      of-ten (λ c. (seen : Command → Bool) (x : Registers) → put c (mix seen x) ≡ mix (also c seen) x)
+      (record {
+        system-set = λ seen x. let v = r .values SystemSet in simp (both-bytes (v .3 .3 .3 .3 .3 .3 .1));
+        scroll =
+            λ seen x.
+            let v = r .values Scroll in
+            simp (both-bytes (v .1), both-bytes (v .3 .3 .3 .1), both-bytes (v .3 .3 .3 .3 .3 .3 .1), both-bytes (v .3 .3 .3 .3 .3 .3 .3 .3 .1));
+        csr-form = λ seen x. refl;
+        csr-dir = λ seen x. refl;
+        ovlay = λ seen x. refl;
+        cgram-adr = λ seen x. simp (both-bytes (r .values CgramAdr .1));
+        hdot-scr = λ seen x. refl;
+        gray-scale = λ seen x. refl;
+        disp = λ seen x. refl;
+        csrw =
+            λ seen x.
+            let low : r .values Csrw .0 ≡ 0 = ap (λ (l : List ℕ). getD l 0 0) (r .home) in
+            let high : r .values Csrw .3 .0 ≡ 0 = ap (λ (l : List ℕ). getD l 1 0) (r .home) in
+            simp (both-bytes (r .values Csrw .1)) (rw (low, high));
+      })
 
   awake-also : (c : Command) (seen : Command → Bool) (x : Registers) → mix seen x .asleep ≡ false → mix (also c seen) x .asleep ≡ false
   awake-also c seen x = go (SystemSet is c) (seen SystemSet)

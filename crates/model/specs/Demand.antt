@@ -7,7 +7,7 @@ use lib.ListN.{length}
 use Rattle.registers.specs.declared.Command.{Command}
 use Rattle.model.specs.Machine.{Machine, Outcome}
 use Rattle.model.specs.Calls.{BusCall, command, write, read, after, trace, reset}
-use Rattle.model.specs.Refresh.{All, Byte, Refresh, count, nine, eleven, sends, sent, without}
+use Rattle.model.specs.Refresh.{All, Byte, Refresh, nine, eleven, sends, sent, without}
 
 abbrev pub OnBus : BusCall → Type 0
 OnBus (command b) = Byte b
@@ -61,7 +61,7 @@ pub record Differ (r : Refresh) (c : Command) : Type 0 where
   pub differ : after (reached p₁) (rest r c) ≢ after (reached p₂) (rest r c)
 
 abbrev pub EachNeeded : Type 0
-EachNeeded = (r : Refresh) (c : Command) → count c (eleven nine) ≡ 1 → Differ r c
+EachNeeded = (r : Refresh) → All (Differ r) (eleven nine)
 
 -- Demand 3; a full refresh exists, so that it is not about nothing
 pub record Demand3 : Type 0 where

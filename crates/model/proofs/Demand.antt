@@ -47,7 +47,7 @@ a-refresh =
       once = λ c. refl;
       memory = replicate 32768 0;
       memory-bytes = all-zero 32768;
-      memory-full = length-replicate 32768 0;
+      memory-full = length-replicate {A = ℕ} 32768 0;
     }
 
 pub demand-3 : Demand3

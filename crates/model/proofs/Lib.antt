@@ -5,3 +5,4 @@ pub mod Seen
 pub mod Settles
 pub mod Needed
 pub mod Demand
+pub mod Edges

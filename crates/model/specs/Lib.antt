@@ -3,3 +3,4 @@ pub mod Bus
 pub mod Calls
 pub mod Refresh
 pub mod Demand
+pub mod Edges

@@ -52,11 +52,12 @@ module _ (memory : List ℕ) (full : length memory ≡ 32768) where
 
   hold : (es : List Edge) → All Computes es → All (λ e. seen (e .look) (call (after (reset memory) (e .before)) (e .last)) ≡ e .said) es
   hold [] h = tt
-  hold (e ∷ es) h =
-      (ap (seen (e .look)) (call-sized (after (reset memory) (e .before)) (after-size (reset memory) (e .before) ∙ full) (e .last)
-           ∙ ap (λ (m : Machine). sizedCall m (e .last)) (after-sized (reset memory) full (e .before)))
-       ∙ h .0,
-       hold es (h .1))
+  hold (e ∷ es) h = (
+    ap (seen (e .look)) (call-sized (after (reset memory) (e .before)) (after-size (reset memory) (e .before) ∙ full) (e .last)
+        ∙ ap (λ (m : Machine). sizedCall m (e .last)) (after-sized (reset memory) full (e .before)))
+        ∙ h .0,
+    hold es (h .1),
+  )
 
 pub edges-hold : EdgesHold
 unfolding commandOf begin store storeSystem storeBlocks storeForm directionOf withLow withHigh allowed systemAllows formAllows nextAddress ignored commandWrite served writeParameter

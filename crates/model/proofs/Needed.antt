@@ -152,12 +152,14 @@ module _ (r : Refresh) where
   rest-run c n s memory full awake =
       let x = mix r (seen c) (s .registers) in
       let t = ten-run c s memory full awake in
-      let k = spilled x (t .2) (x .cursor .address) memory (r .memory) full in
-      (t .2, k .0,
-       rest-parts c
-       (rw n
-       (runs-sends r (without c (SystemSet ∷ r .order)) (Mwrite ∷ []) (t .1)
-       (runs-append (send r Mwrite) (runs-cons (write-begun r x (t .0) memory (t .2)) (inl refl) (k .1)) runs-none))))
+      let k = spilled x (t .2) (x .cursor .address) memory (r .memory) full in (
+        t .2,
+        k .0,
+        rest-parts c
+            (rw n
+            (runs-sends r (without c (SystemSet ∷ r .order)) (Mwrite ∷ []) (t .1)
+            (runs-append (send r Mwrite) (runs-cons (write-begun r x (t .0) memory (t .2)) (inl refl) (k .1)) runs-none))),
+      )
 
   -- what c alone sets stays as it was
   abbrev Stays : Command → Type 0
@@ -196,9 +198,11 @@ module _ (r : Refresh) where
       → (m : Machine) × Runs Only7 (machine s memory) (rest r c) m × (observe c (m .controller .registers) ≡ observe c (s .registers) + gain c)
   number-left c h n s memory full f =
       let t = rest-run c n s memory full (f .0) in
-      let x = mix r (seen c) (s .registers) in
-      (writing x (travel x (t .0) (x .cursor .address) (r .memory)) (t .1), t .2,
-       stays c h (seen c) (adds-without c (SystemSet ∷ r .order) none) (s .registers) f (t .0))
+      let x = mix r (seen c) (s .registers) in (
+        writing x (travel x (t .0) (x .cursor .address) (r .memory)) (t .1),
+        t .2,
+        stays c h (seen c) (adds-without c (SystemSet ∷ r .order) none) (s .registers) f (t .0),
+      )
 
 -- Two controllers differ where a number of theirs does
 
@@ -250,13 +254,41 @@ needed-mwrite r =
 
     run : (b : ℕ) (h : Byte b) → (c : Controller) × Runs Only7 (reached (first b h)) (rest r Mwrite) (machine c (changed b))
     run b h =
-        let t = ten-run r Mwrite (reset (changed b) .controller) (changed b) (full b) refl in
-        (record { registers = mix r (seen r Mwrite) resetRegisters; pending = t .0 },
-         rest-parts r Mwrite (runs-sends r (without Mwrite (SystemSet ∷ r .order)) [] (t .1) runs-none))
+        let t = ten-run r Mwrite (reset (changed b) .controller) (changed b) (full b) refl in (
+          record { registers = mix r (seen r Mwrite) resetRegisters; pending = t .0 },
+          rest-parts r Mwrite (runs-sends r (without Mwrite (SystemSet ∷ r .order)) [] (t .1) runs-none),
+        )
 
 pub needed : EachNeeded
 needed r =
-    let ten = needed-ten r in
-    (ten SystemSet (omega arith) refl, (ten Scroll (omega arith) refl, (ten CsrForm (omega arith) refl, (ten CsrDir (omega arith) refl, (ten Ovlay (omega arith) refl,
-    (ten CgramAdr (omega arith) refl, (ten HdotScr (omega arith) refl, (ten GrayScale (omega arith) refl, (ten Disp (omega arith) refl, (ten Csrw (omega arith) refl,
-    (needed-mwrite r, tt)))))))))))
+    let ten = needed-ten r in (
+      ten SystemSet (omega arith) refl,
+      (
+        ten Scroll (omega arith) refl,
+        (
+          ten CsrForm (omega arith) refl,
+          (
+            ten CsrDir (omega arith) refl,
+            (
+              ten Ovlay (omega arith) refl,
+              (
+                ten CgramAdr (omega arith) refl,
+                (
+                  ten HdotScr (omega arith) refl,
+                  (
+                    ten GrayScale (omega arith) refl,
+                    (
+                      ten Disp (omega arith) refl,
+                      (
+                        ten Csrw (omega arith) refl,
+                        (needed-mwrite r, tt),
+                      ),
+                    ),
+                  ),
+                ),
+              ),
+            ),
+          ),
+        ),
+      ),
+    )

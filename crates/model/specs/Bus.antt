@@ -8,6 +8,7 @@ use Rattle.registers.specs.Choice.{if_then_else_, _<?_, _=?_}
 use Rattle.registers.specs.Commands.{commandOf, _is_, parameters}
 use Rattle.registers.specs.Parameters.{begin, store, allowed}
 use Rattle.registers.specs.Cursor.{moveCursor}
+use Rattle.registers.specs.Sizes.{memorySize}
 use Rattle.model.specs.declared.Controller.{Controller}
 use Rattle.model.specs.Machine.{Machine, Outcome, accept, give, refuse, controller, ended}
 
@@ -30,7 +31,7 @@ served c = if ignored (c .pending .command) (c .registers .asleep) then None els
 
 -- memory of the size that refusal 1 tests
 abbrev pub sized : Machine → Bool
-sized m = length (m .memory) =? 32768
+sized m = length (m .memory) =? memorySize
 
 -- each memory write or read acts at the cursor, then moves it
 abbrev pub accessed : Controller → Controller

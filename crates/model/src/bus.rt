@@ -1,11 +1,11 @@
 // Calls of the bus.
 use crate::Controller;
-use crate::MEMORY_SIZE;
 use crate::Pending;
 use crate::Read;
 use crate::Written;
 use registers::Answer;
 use registers::Command;
+use registers::MEMORY_SIZE;
 use registers::ReadAnswer;
 use registers::Refusal;
 use registers::Registers;

@@ -7,9 +7,6 @@ use registers::Command;
 use registers::ReadAnswer;
 use registers::Registers;
 
-// How many bytes of display memory there are.
-pub const MEMORY_SIZE: usize = 32768;
-
 // The pending command, and how many of its parameters or reads were taken.
 pub struct Pending {
     pub command: Command,

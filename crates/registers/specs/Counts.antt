@@ -9,3 +9,7 @@ codeOf n = record { 0 = n }
 -- [n]
 abbrev pub count : Code → Count
 count n = record { 0 = n .0 + 1 }
+
+-- [n] as a number
+abbrev pub ⁅_⁆ : Code → ℕ
+⁅ n ⁆ = count n .0

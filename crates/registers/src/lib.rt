@@ -1,12 +1,17 @@
 // The registers of one S1D13700: its commands, the register groups that their parameters set, and the answers of a call.
 mod commands;
 mod groups;
+mod layout;
 mod movement;
 mod refusals;
 mod store;
 
 ghost use mathlib.Core.Path.{_≡_};
 ghost use Rattle.registers.specs.Counts.{count};
+
+// How many bytes display memory has, and the font.
+pub const MEMORY_SIZE: usize = 32768;
+pub const FONT_SIZE: usize = 1280;
 
 // A code n as the manual stores it.
 pub struct Code(pub u8);

@@ -1,0 +1,116 @@
+-- What the code computes on the way to a row, whole bytes at a time. Laws in proofs/ give their dots.
+use Prim.Native.Nat.{ℕ, _+_, _*_, _/_, _%_, _^_, _<_, _≤_}
+use mathlib.Core.Bool.{Bool, true, false}
+use mathlib.Core.List.{List, [], _∷_}
+use mathlib.Core.Path.{_≡_}
+use lib.Bits.{bitAnd, bitOr, bitXor}
+use lib.ListN.{getD}
+use Rattle.registers.specs.declared.Registers.{Registers}
+use Rattle.registers.specs.Choice.{if_then_else_, _<?_, _=?_}
+use Rattle.registers.specs.Counts.{⁅_⁆}
+use Rattle.row.specs.declared.LayerRow.{LayerRow}
+use Rattle.row.specs.declared.LayerRow.the-variants.{Nothing, Block}
+use Rattle.row.specs.declared.Source.{Source}
+use Rattle.row.specs.declared.Source.the-variants.{Blank, Graphics, Text}
+use Rattle.row.specs.declared.CursorRow.{CursorRow}
+use Rattle.row.specs.declared.ColumnSetup.{ColumnSetup}
+use Rattle.row.specs.Layers.{isText, sad, threeLayers}
+use Rattle.row.specs.Glyphs.{fetch, glyphByte}
+use Rattle.row.specs.Flashing.{isLit, cursorOn}
+use Rattle.row.specs.Cursor.{inShape}
+use Rattle.row.specs.Mixing.{firstOf}
+use Rattle.row.specs.Dots.{dotOf, dotsPerColumn, columnDot}
+
+-- the address of row q of a block, or of its text line q
+abbrev pub lineAddress : ℕ → ℕ → ℕ → ℕ
+lineAddress start pitch q = (start + q * pitch) % 65536
+
+-- what a layer fetches, lit or not
+unfoldable pub sourceOf : Registers → LayerRow → Source
+sourceOf r Nothing = Blank
+sourceOf r (Block block q) =
+    if isText (r .overlay) block
+    then Text (lineAddress (sad (r .blocks) block) (r .system .ap) (q / ⁅ r .system .fy ⁆)) (q % ⁅ r .system .fy ⁆)
+    else Graphics (lineAddress (sad (r .blocks) block) (r .system .ap) q)
+
+-- a dark block fetches nothing
+unfoldable pub litSource : Registers → LayerRow → ℕ → Source
+litSource r Nothing frame = Blank
+litSource r (Block block q) frame = if isLit (r .display .fp) block frame then sourceOf r (Block block q) else Blank
+
+abbrev pub columnSetup : Registers → ColumnSetup
+columnSetup r =
+    record { m0 = r .system .m0; m2 = r .system .m2; cgram = r .cgram; mx = r .overlay .mx; gray = r .gray; cursor = r .cursor .address }
+
+unfoldable pub sourceByte : ColumnSetup → Source → List ℕ → List ℕ → ℕ → ℕ
+sourceByte k Blank memory font c = 0
+sourceByte k (Graphics start) memory font c = fetch memory (start + c)
+sourceByte k (Text start row) memory font c = glyphByte (k .m0) (k .m2) (k .cgram) memory font (fetch memory (start + c)) row
+
+-- a byte whose first n bits are set
+unfoldable pub firstBits : ℕ → ℕ
+firstBits n = if n <? 8 then getD (0 ∷ 128 ∷ 192 ∷ 224 ∷ 240 ∷ 248 ∷ 252 ∷ 254 ∷ []) n 0 else 255
+
+abbrev pub cursorRow : ℕ → ℕ → CursorRow
+cursorRow start mask = record { start = start; mask = mask }
+
+unfoldable pub cursorRowOf : Registers → LayerRow → ℕ → CursorRow
+cursorRowOf r Nothing frame = cursorRow 0 0
+cursorRowOf r (Block block q) frame =
+    if threeLayers (r .system .ws) (r .overlay) then cursorRow 0 0
+    else if isText (r .overlay) block
+    then (if cursorOn (r .display .fc) frame
+          then (if inShape (r .form) (q % ⁅ r .system .fy ⁆)
+                then cursorRow (lineAddress (sad (r .blocks) block) (r .system .ap) (q / ⁅ r .system .fy ⁆)) (firstBits ⁅ r .form .crx ⁆)
+                else cursorRow 0 0)
+          else cursorRow 0 0)
+    else cursorRow 0 0
+
+-- the byte of layer 1 with the cursor's bits inverted
+unfoldable pub invertedByte : CursorRow → ℕ → ℕ → ℕ → ℕ
+invertedByte k cursor c a = if (k .start + c) % 65536 =? cursor then bitXor a (k .mask) else a
+
+-- the first that isn't 0, for each pair of bits, and for each half of a byte
+unfoldable pub firstPairs : ℕ → ℕ → ℕ → ℕ
+firstPairs a b c =
+    firstOf (a / 64 % 4) (b / 64 % 4) (c / 64 % 4) % 4 * 64 + firstOf (a / 16 % 4) (b / 16 % 4) (c / 16 % 4) % 4 * 16
+    + firstOf (a / 4 % 4) (b / 4 % 4) (c / 4 % 4) % 4 * 4 + firstOf (a % 4) (b % 4) (c % 4) % 4
+
+unfoldable pub firstNibbles : ℕ → ℕ → ℕ → ℕ
+firstNibbles a b c = firstOf (a / 16 % 16) (b / 16 % 16) (c / 16 % 16) % 16 * 16 + firstOf (a % 16) (b % 16) (c % 16) % 16
+
+unfoldable pub mixByte : ℕ → ℕ → ℕ → ℕ → ℕ → ℕ
+mixByte mx gray a b c =
+    if mx =? 0 then bitOr (bitOr a b) c
+    else if mx =? 1 then bitOr (bitXor a b) c
+    else if mx =? 2 then bitOr (bitAnd a b) c
+    else if gray =? 0 then bitOr (bitOr a b) c
+    else if gray =? 1 then firstPairs a b c
+    else firstNibbles a b c
+
+unfoldable pub columnByte : ColumnSetup → Source → Source → Source → CursorRow → List ℕ → List ℕ → ℕ → ℕ
+columnByte k one two three cursor memory font c =
+    mixByte (k .mx) (k .gray) (invertedByte cursor (k .cursor) c (sourceByte k one memory font c))
+    (sourceByte k two memory font c) (sourceByte k three memory font c)
+
+-- dot x of a row of such bytes
+unfoldable pub columnsDot : ColumnSetup → Source → Source → Source → CursorRow → List ℕ → List ℕ → ℕ → ℕ → ℕ
+columnsDot k one two three cursor memory font perColumn x =
+    dotOf (2 ^ k .gray) (columnByte k one two three cursor memory font (x / perColumn)) (x % perColumn)
+
+-- dot x of row n with the display on
+unfoldable pub shownDot : Registers → List ℕ → List ℕ → ℕ → ℕ → ℕ → ℕ
+shownDot r memory font frame n x = columnDot r memory font frame n (x / dotsPerColumn r) (x % dotsPerColumn r)
+
+-- n dots are what a byte gives at a grey code
+pub record Room (gray n : ℕ) : Type 0 where
+  pub code : gray < 3
+  pub one : gray ≡ 0 → n ≤ 8
+  pub two : gray ≡ 1 → n ≡ 4
+  pub four : gray ≡ 2 → n ≡ 2
+
+-- what the refusals leave: grey with DM = 11 alone, and at most 8 dots a column
+pub record Composable (r : Registers) : Type 0 where
+  pub code : r .gray < 3
+  pub narrow : ⁅ r .system .fx ⁆ ≤ 8
+  pub graphics : (r .gray ≡ 0 → ⊥) → (r .overlay .dm1 ≡ true) × (r .overlay .dm2 ≡ true)

@@ -1,0 +1,61 @@
+-- 01, 'Blocks and layers of a row': the dots of a row.
+use Prim.Native.Nat.{ℕ, zero, suc, _+_, _-_, _*_, _/_, _%_, _^_}
+use mathlib.Core.Bool.{Bool, not, _&&_}
+use mathlib.Core.List.{List, [], _∷_}
+use Rattle.registers.specs.declared.Registers.{Registers}
+use Rattle.registers.specs.Choice.{if_then_else_, _=?_}
+use Rattle.registers.specs.Counts.{⁅_⁆}
+use Rattle.row.specs.Layers.{layer1, layer2, layer3}
+use Rattle.row.specs.Glyphs.{blockByte}
+use Rattle.row.specs.Flashing.{isLit}
+use Rattle.row.specs.Cursor.{hasCursor, inverted}
+use Rattle.row.specs.Mixing.{mix}
+use Rattle.row.specs.declared.LayerRow.{LayerRow}
+use Rattle.row.specs.declared.LayerRow.the-variants.{Nothing, Block}
+
+-- GRAY SCALE 0, 1, 2 mean 1, 2, 4 bits a dot
+abbrev pub bitsPerDot : Registers → ℕ
+bitsPerDot r = 2 ^ r .gray
+
+-- the dots of a column: [FX], in grey 8 / bits a dot
+unfoldable pub dotsPerColumn : Registers → ℕ
+dotsPerColumn r = if r .gray =? 0 then ⁅ r .system .fx ⁆ else 8 / bitsPerDot r
+
+-- Width: [C/R] x [FX] dots, in grey [C/R] x 8 / bits a dot
+unfoldable pub width : Registers → ℕ
+width r = ⁅ r .system .cr ⁆ * dotsPerColumn r
+
+-- a byte gives its top bits, bit 7 leftmost; in grey its 2- or 4-bit groups, top group leftmost
+unfoldable pub dotOf : ℕ → ℕ → ℕ → ℕ
+dotOf bits byte j = byte / 2 ^ (8 - bits * (j + 1)) % 2 ^ bits
+
+-- a layer's byte at column c; a dark block's is 0
+unfoldable pub layerByte : Registers → List ℕ → List ℕ → ℕ → LayerRow → ℕ → ℕ
+layerByte r memory font frame Nothing c = 0
+layerByte r memory font frame (Block block q) c = if isLit (r .display .fp) block frame then blockByte r memory font block q c else 0
+
+-- dot j of column c of row n, with the cursor in layer 1
+unfoldable pub columnDot : Registers → List ℕ → List ℕ → ℕ → ℕ → ℕ → ℕ → ℕ
+columnDot r memory font frame n c j =
+    let layerDot : LayerRow → ℕ = λ layer. dotOf (bitsPerDot r) (layerByte r memory font frame layer c) j in
+    mix (r .overlay .mx)
+    (inverted (hasCursor r frame (layer1 r n) c) ⁅ r .form .crx ⁆ j (layerDot (layer1 r n)))
+    (layerDot (layer2 r n))
+    (layerDot (layer3 r n))
+
+-- dot x of row n: with D = 0 or asleep, 0
+unfoldable pub dot : Registers → List ℕ → List ℕ → ℕ → ℕ → ℕ → ℕ
+dot r memory font frame n x =
+    if r .display .on && not (r .asleep) then columnDot r memory font frame n (x / dotsPerColumn r) (x % dotsPerColumn r)
+    else 0
+
+-- f 0, f 1, .., f (n - 1)
+abbrev pub tableFrom : ℕ → ℕ → (ℕ → ℕ) → List ℕ
+tableFrom i zero f = []
+tableFrom i (suc n) f = f i ∷ tableFrom (suc i) n f
+
+unfoldable pub table : ℕ → (ℕ → ℕ) → List ℕ
+table n f = tableFrom 0 n f
+
+unfoldable pub dots : Registers → List ℕ → List ℕ → ℕ → ℕ → List ℕ
+dots r memory font frame n = table (width r) (dot r memory font frame n)

@@ -1,0 +1,9 @@
+pub mod Layers
+pub mod Glyphs
+pub mod Flashing
+pub mod Cursor
+pub mod Mixing
+pub mod Dots
+pub mod Refusals
+pub mod Rows
+pub mod Columns

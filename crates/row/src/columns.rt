@@ -1,0 +1,69 @@
+// The columns of a row.
+use crate::ColumnSetup;
+use crate::CursorRow;
+use crate::Source;
+use crate::mixing::mix_byte;
+use crate::sources::source_byte;
+use crate::spreading::spread;
+ghost use Prim.Native.Nat.{_*_, _<_};
+ghost use mathlib.Core.Path.{_≡_};
+ghost use lib.ListN.{length};
+ghost use Rattle.row.specs.Dots.{table};
+ghost use Rattle.row.specs.Columns.{Room, invertedByte, columnByte, columnsDot};
+
+// The byte of layer 1 with the cursor's bits inverted.
+fn invert(k: CursorRow, cursor: u16, c: u16, a: u8) -> u8
+    ensures { λ r. ⌜ r ≡ invertedByte k cursor c a ⌝ }
+{
+    if std::num::wrapping_add_u16(k.start, c) == cursor {
+        return a ^ k.mask;
+    }
+    a
+}
+
+// The mixed byte of column c.
+fn column(
+    k: ColumnSetup,
+    one: Source,
+    two: Source,
+    three: Source,
+    cursor: CursorRow,
+    memory: &[u8],
+    font: &[u8],
+    c: u16,
+) -> u8
+    ensures { λ r. ⌜ r ≡ columnByte k one two three cursor (now (memory .entry)) (now (font .entry)) c ⌝ }
+{
+    let a = invert(cursor, k.cursor, c, source_byte(k, one, memory, font, c));
+    let b = source_byte(k, two, memory, font, c);
+    let d = source_byte(k, three, memory, font, c);
+    mix_byte(k.mx, k.gray, a, b, d)
+}
+
+// The dots of all columns.
+pub fn columns(
+    k: ColumnSetup,
+    one: Source,
+    two: Source,
+    three: Source,
+    cursor: CursorRow,
+    memory: &[u8],
+    font: &[u8],
+    count: u16,
+    per: usize,
+    out: &mut [u8],
+)
+    requires { ⌜ (length (now out) ≡ count * per) × (0 < per) × Room (k .gray) per ⌝ }
+    ensures { λ _. ⌜ now (out .exit) ≡ table (count * per) (columnsDot k one two three cursor (now (memory .entry)) (now (font .entry)) per) ⌝ }
+{
+    let gray = k.gray;
+    let mut c: u16 = 0;
+    let mut at: usize = 0;
+    while c < count {
+        let b = column(k, one, two, three, cursor, memory, font, c);
+        let end = at + per;
+        spread(gray, b, &mut out[at..end]);
+        at = end;
+        c += 1;
+    }
+}

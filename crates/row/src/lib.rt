@@ -1,0 +1,49 @@
+// Rows of dots, from the registers, display memory, a font and a frame number.
+mod columns;
+mod cursor;
+mod flashing;
+mod glyphs;
+mod layers;
+mod mixing;
+mod refusals;
+mod rows;
+mod sources;
+mod spreading;
+
+pub use rows::compose;
+
+// What a layer shows on a row: nothing, or a row of a block, counted from the block's first.
+pub enum LayerRow {
+    Nothing,
+    Block(u8, u16),
+}
+
+// Where a code's glyph comes from: nowhere, a glyph of the font, or CG RAM.
+pub enum Glyph {
+    Empty,
+    Font(u8),
+    CgRam,
+}
+
+// What a layer's row fetches: nothing, the bytes from an address on, or a glyph row of the codes from an address on.
+pub enum Source {
+    Blank,
+    Graphics(u16),
+    Text(u16, u8),
+}
+
+// The cursor on a row: the address of the row's first code, and the bits that it inverts in the byte of its own.
+pub struct CursorRow {
+    pub start: u16,
+    pub mask: u8,
+}
+
+// What every column of a row reads of the registers.
+pub struct ColumnSetup {
+    pub m0: bool,
+    pub m2: bool,
+    pub cgram: u16,
+    pub mx: u8,
+    pub gray: u8,
+    pub cursor: u16,
+}

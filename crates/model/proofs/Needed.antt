@@ -1,7 +1,7 @@
 -- Demand 3, second part: each of the eleven commands is needed.
-use Prim.Native.Nat.{ℕ, zero, suc, _+_, _<_, _≤_, _%_}
+use Prim.Native.Nat.{ℕ, zero, suc, _+_, _<_, _≤_}
 use mathlib.Core.Bool.{Bool, true, false}
-use mathlib.Core.List.{List, [], _∷_, _++_, map}
+use mathlib.Core.List.{List, [], _∷_, _++_}
 use mathlib.Core.Logic.{inl}
 use mathlib.Core.Path.{_≡_, refl, sym, ap, subst, _∙_}
 use native.Mathlib.Nat.{add-zero}
@@ -19,17 +19,18 @@ use Rattle.registers.specs.Choice.{if_then_else_}
 use Rattle.registers.specs.Commands.{commandOf, code, _is_}
 use Rattle.registers.specs.Parameters.{begin, store, storeSystem, storeDisplay, storeBlocks, storeForm, storeOverlay, directionOf, withLow, allowed, systemAllows, formAllows, resetRegisters}
 use Rattle.registers.specs.Cursor.{nextAddress}
+use Rattle.registers.proofs.Codes.{is-same}
 use Rattle.model.specs.declared.Pending.{Pending}
 use Rattle.model.specs.declared.Controller.{Controller}
 use Rattle.model.specs.Machine.{Machine, Outcome, machine, controller}
 use Rattle.model.specs.Bus.{ignored, commandWrite, served, dataWrite, writeParameter}
-use Rattle.model.specs.Calls.{BusCall, command, write, after, trace, reset}
+use Rattle.model.specs.Calls.{BusCall, command, write, after, reset}
 use Rattle.model.specs.Refresh.{All, Byte, count, nine, eleven, Refresh, send, sends, without}
 use Rattle.model.specs.Demand.{OnBus, Accepted, Only7, Prior, reached, rest, Differ, EachNeeded}
 use Rattle.model.proofs.Runs.{Runs, runs-none, runs-cons, runs-append, runs-weaker}
 use Rattle.model.proofs.Steps.{at, next, writing, travel, spilled}
 use Rattle.model.proofs.Ten.{Ten, of-ten}
-use Rattle.model.proofs.Seen.{none, adds, adds-without, all-without}
+use Rattle.model.proofs.Seen.{none, adds, adds-without, all-counted, all-without}
 use Rattle.model.proofs.Settles.{order-ten, mix, mix-run, write-begun, runs-sends}
 
 -- Two controllers from reset, the second after a list that makes a number of c's registers 1
@@ -260,35 +261,8 @@ needed-mwrite r =
         )
 
 pub needed : EachNeeded
-needed r =
-    let ten = needed-ten r in (
-      ten SystemSet (omega arith) refl,
-      (
-        ten Scroll (omega arith) refl,
-        (
-          ten CsrForm (omega arith) refl,
-          (
-            ten CsrDir (omega arith) refl,
-            (
-              ten Ovlay (omega arith) refl,
-              (
-                ten CgramAdr (omega arith) refl,
-                (
-                  ten HdotScr (omega arith) refl,
-                  (
-                    ten GrayScale (omega arith) refl,
-                    (
-                      ten Disp (omega arith) refl,
-                      (
-                        ten Csrw (omega arith) refl,
-                        (needed-mwrite r, tt),
-                      ),
-                    ),
-                  ),
-                ),
-              ),
-            ),
-          ),
-        ),
-      ),
-    )
+needed r = all-counted (Differ r) (eleven nine) (λ c h. go c (c is Mwrite) refl h)
+  where
+    go : (c : Command) (t : Bool) → (c is Mwrite) ≡ t → 0 < count c (eleven nine) → Differ r c
+    go c true e h = subst (Differ r) (sym (is-same c Mwrite e)) (needed-mwrite r)
+    go c false e h = needed-ten r c (rw e at h) e

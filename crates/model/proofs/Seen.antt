@@ -1,12 +1,11 @@
 -- Which commands a list has, whatever their order.
-use Prim.Native.Nat.{ℕ, suc, _<_}
+use Prim.Native.Nat.{_<_}
 use mathlib.Core.Bool.{Bool, true, false, _||_, or-true}
 use mathlib.Core.List.{List, [], _∷_}
-use mathlib.Core.Path.{_≡_, refl, sym, _∙_}
+use mathlib.Core.Path.{_≡_, refl, _∙_}
 use native.Mathlib.Omega.{arith}
 use borrow.Author.Tests.{eq-eqb}
 use Rattle.registers.specs.declared.Command.{Command}
-use Rattle.registers.specs.Choice.{if_then_else_}
 use Rattle.registers.specs.Commands.{code, _is_}
 use Rattle.model.specs.Refresh.{All, count, without}
 

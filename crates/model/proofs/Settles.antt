@@ -1,25 +1,25 @@
 -- Demand 3, first part: whatever came before, a full refresh leads to one and the same machine.
-use Prim.Native.Nat.{ℕ, suc, _+_, _*_, _<_}
-use mathlib.Core.Bool.{Bool, true, false, not, _&&_, _||_}
-use mathlib.Core.List.{List, [], _∷_, _++_, map, append-assoc}
+use Prim.Native.Nat.{ℕ, _+_, _<_}
+use mathlib.Core.Bool.{Bool, true, false, _||_}
+use mathlib.Core.List.{List, [], _∷_, _++_, append-assoc}
 use mathlib.Core.Path.{_≡_, refl, sym, ap, subst, _∙_}
 use native.Mathlib.Omega.{arith}
 use lib.ListN.{length, getD}
 use Rattle.registers.specs.declared.Command.{Command}
-use Rattle.registers.specs.declared.Command.the-variants.{None, SystemSet, SleepIn, Disp, Scroll, CsrForm, CsrDir, Ovlay, CgramAdr, HdotScr, GrayScale, Csrw, Csrr, Mwrite, Mread}
+use Rattle.registers.specs.declared.Command.the-variants.{None, SystemSet, SleepIn, Disp, Scroll, CsrForm, CsrDir, Ovlay, CgramAdr, HdotScr, GrayScale, Csrw, Mwrite}
 use Rattle.registers.specs.declared.Direction.the-variants.{Right}
 use Rattle.registers.specs.declared.Registers.{Registers}
 use Rattle.registers.specs.Choice.{if_then_else_}
 use Rattle.registers.specs.Commands.{commandOf, _is_, parameters}
-use Rattle.registers.specs.Parameters.{begin, store, storeSystem, storeDisplay, storeBlocks, storeForm, storeOverlay, directionOf, withLow, withHigh, resetRegisters}
+use Rattle.registers.specs.Parameters.{begin, store, storeSystem, storeDisplay, storeBlocks, storeForm, storeOverlay, directionOf, resetRegisters}
 use Rattle.registers.proofs.Words.{both-bytes}
 use Rattle.model.specs.declared.Pending.{Pending}
 use Rattle.model.specs.declared.Controller.{Controller}
 use Rattle.model.specs.Machine.{Machine, Outcome, machine, accept, controller}
 use Rattle.model.specs.Bus.{ignored}
-use Rattle.model.specs.Calls.{BusCall, command, call, after, trace, reset}
-use Rattle.model.specs.Refresh.{All, count, nine, eleven, Refresh, opcode, send, sends, sent}
-use Rattle.model.specs.Demand.{Accepted, Prior, reached, RefreshSettles}
+use Rattle.model.specs.Calls.{BusCall, command, call, trace, reset}
+use Rattle.model.specs.Refresh.{All, count, nine, Refresh, opcode, send, sends, sent}
+use Rattle.model.specs.Demand.{Accepted, reached, RefreshSettles}
 use Rattle.model.proofs.Runs.{Runs, runs-none, runs-cons, runs-append, runs-to, after-size}
 use Rattle.model.proofs.Steps.{Takes, takes-awake, begun, stores, parameters-run, at, writing, filled}
 use Rattle.model.proofs.Ten.{Ten, of-ten}

@@ -17,11 +17,11 @@ use Rattle.registers.specs.Choice.{if_then_else_, _<?_, _=?_}
 use Rattle.registers.specs.Commands.{commandOf, _is_, parameters}
 use Rattle.registers.specs.Parameters.{begin, store, allowed}
 use Rattle.registers.specs.Refusals.{Reply, accepted, refused}
-use Rattle.registers.specs.Cursor.{nextAddress}
+use Rattle.registers.specs.Cursor.{nextAddress, withCursor}
 use Rattle.model.specs.declared.Controller.{Controller}
-use Rattle.model.specs.Machine.{Machine, Outcome, machine, accept, refuse, controller}
+use Rattle.model.specs.Machine.{Machine, machine, accept, controller}
 use Rattle.model.specs.Bus.{ignored, commandWrite, served, dataWrite, writeParameter, writeMemory}
-use Rattle.model.specs.Calls.{BusCall, command, write, call}
+use Rattle.model.specs.Calls.{command, write, call}
 use Rattle.model.specs.Refresh.{Values, bytes}
 use Rattle.model.specs.Demand.{Accepted, Only7}
 use Rattle.model.proofs.Runs.{Runs, runs-none, runs-cons, runs-to}
@@ -72,19 +72,7 @@ parameters-run c w place (suc k) e vs x memory full t =
 
 -- registers with the cursor at an address
 abbrev pub at : Registers → ℕ → Registers
-at x address =
-    record {
-      system = x .system;
-      display = x .display;
-      blocks = x .blocks;
-      form = x .form;
-      overlay = x .overlay;
-      cgram = x .cgram;
-      hdot = x .hdot;
-      gray = x .gray;
-      cursor = record { address = address; direction = x .cursor .direction };
-      asleep = x .asleep;
-    }
+at x address = withCursor (record { address = address; direction = x .cursor .direction }) x
 
 abbrev pub next : Registers → ℕ → ℕ
 next x address = nextAddress (x .cursor .direction) (x .system .ap) address

@@ -1,6 +1,6 @@
 -- 01, 'The full refresh': lists of calls. Each call gets the controller and the memory that the one before it left.
 use Prim.Native.Nat.{ℕ}
-use mathlib.Core.List.{List, [], _∷_}
+use mathlib.Core.List.{List, [], _∷_, map}
 use Rattle.model.specs.Machine.{Machine, Outcome, machine, resetController}
 use Rattle.model.specs.Bus.{commandWrite, dataWrite, dataRead}
 
@@ -8,6 +8,10 @@ pub data BusCall : Type 0 where
   command : ℕ → BusCall
   write : ℕ → BusCall
   read : BusCall
+
+-- a command with its data
+abbrev pub sending : ℕ → List ℕ → List BusCall
+sending code bs = command code ∷ map write bs
 
 abbrev pub call : Machine → BusCall → Outcome
 call m (command b) = commandWrite m b

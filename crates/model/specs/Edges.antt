@@ -1,11 +1,11 @@
 -- 01, 'Both sides of each edge': the cases marked * that concern the bus, each computed by the definition of a call, from
 -- reset beside any memory of 32,768 bytes.
 use Prim.Native.Nat.{ℕ}
-use mathlib.Core.List.{List, [], _∷_, _++_, map}
+use mathlib.Core.List.{List, [], _∷_, _++_}
 use mathlib.Core.Path.{_≡_}
 use lib.ListN.{length, getD, replicate}
 use Rattle.model.specs.Machine.{Outcome}
-use Rattle.model.specs.Calls.{BusCall, command, write, call, after, reset}
+use Rattle.model.specs.Calls.{BusCall, command, write, sending, call, after, reset}
 use Rattle.model.specs.Refresh.{All}
 
 -- what is looked at after a call: its refusal, 0 where it is taken, the cursor, or the byte at an address
@@ -27,10 +27,6 @@ pub record Edge : Type 0 where
 
 abbrev pub edge : List BusCall → BusCall → Look → ℕ → Edge
 edge before last look said = record { before = before; last = last; look = look; said = said }
-
--- a command with its data
-abbrev pub sending : ℕ → List ℕ → List BusCall
-sending code bs = command code ∷ map write bs
 
 abbrev pub rightAt7FFF : List BusCall
 rightAt7FFF = sending 0x4C [] ++ sending 0x46 (0xFF ∷ 0x7F ∷ []) ++ sending 0x42 []

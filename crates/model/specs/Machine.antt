@@ -6,7 +6,6 @@ use Rattle.registers.specs.declared.Command.the-variants.{None}
 use Rattle.registers.specs.declared.Registers.{Registers}
 use Rattle.registers.specs.Parameters.{resetRegisters}
 use Rattle.registers.specs.Refusals.{Reply, accepted, valued, refused, reply, readReply}
-use Rattle.model.specs.declared.Pending.{Pending}
 use Rattle.model.specs.declared.Controller.{Controller}
 use Rattle.model.specs.declared.Written.{Written}
 use Rattle.model.specs.declared.Read.{Read}

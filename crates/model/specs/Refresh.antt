@@ -1,7 +1,7 @@
 -- 01, 'The full refresh'.
 use Prim.Native.Nat.{ℕ, zero, suc, _+_, _<_}
-use mathlib.Core.Bool.{Bool, not, _&&_}
-use mathlib.Core.List.{List, [], _∷_, _++_, map}
+use mathlib.Core.Bool.{Bool, _&&_}
+use mathlib.Core.List.{List, [], _∷_, _++_}
 use mathlib.Core.Path.{_≡_}
 use lib.Dec.{T}
 use lib.ListN.{length}
@@ -10,7 +10,7 @@ use Rattle.registers.specs.declared.Command.the-variants.{SystemSet, Disp, Scro
 use Rattle.registers.specs.Choice.{if_then_else_}
 use Rattle.registers.specs.Commands.{code, _is_, parameters}
 use Rattle.registers.specs.Parameters.{allowed}
-use Rattle.model.specs.Calls.{BusCall, command, write}
+use Rattle.model.specs.Calls.{BusCall, sending}
 
 abbrev pub All : {A : Type 0} → (A → Type 0) → List A → Type 0
 All P [] = Unit {0}
@@ -72,7 +72,7 @@ module _ (r : Refresh) where
 
   -- a command with its data
   abbrev pub send : Command → List BusCall
-  send c = command (opcode c) ∷ map write (sentData c)
+  send c = sending (opcode c) (sentData c)
 
   abbrev pub sends : List Command → List BusCall
   sends [] = []

@@ -1,20 +1,25 @@
--- 01, 'Refusal numbers': each refusal has one number, and no two have the same.
+-- 01, 'Refusal numbers': no two answers have the same reply; so no two refusals have one number, and none has 0.
 use Prim.Native.Nat.{ℕ}
-use mathlib.Core.List.{List, [], _∷_}
+use mathlib.Core.List.{[], _∷_}
 use mathlib.Core.Path.{_≡_, refl, sym, ap, _∙_}
 use lib.ListN.{getD}
 use Rattle.registers.specs.declared.Refusal.{Refusal}
 use Rattle.registers.specs.declared.Refusal.the-variants.{MemorySize, UnknownCommand, NothingWanted, NotAllowed, Asleep, NothingToRead, OutsideMemory, FontSize, GrayMode, CharacterWidth, RowWidth, OddLines, ShortLine, LayerOrder, CursorShape, RowNumber, BufferSize}
-use Rattle.registers.specs.Refusals.{number}
+use Rattle.registers.specs.declared.Answer.{Answer}
+use Rattle.registers.specs.declared.Answer.the-variants.{Accepted, Refused}
+use Rattle.registers.specs.declared.ReadAnswer.{ReadAnswer}
+use Rattle.registers.specs.declared.ReadAnswer.the-variants.{Value, Refused as ReadRefused}
+use Rattle.registers.specs.Refusals.{Reply, number, reply, readReply}
 
-abbrev numbered : ℕ → Refusal
-numbered n =
+abbrev answered : ℕ → Answer
+answered n =
     getD
-    (MemorySize ∷ MemorySize ∷ UnknownCommand ∷ NothingWanted ∷ NotAllowed ∷ Asleep ∷ NothingToRead ∷ OutsideMemory ∷ FontSize
-    ∷ GrayMode ∷ CharacterWidth ∷ RowWidth ∷ OddLines ∷ ShortLine ∷ LayerOrder ∷ CursorShape ∷ RowNumber ∷ BufferSize ∷ [])
-    n MemorySize
+    (Accepted ∷ Refused MemorySize ∷ Refused UnknownCommand ∷ Refused NothingWanted ∷ Refused NotAllowed ∷ Refused Asleep
+    ∷ Refused NothingToRead ∷ Refused OutsideMemory ∷ Refused FontSize ∷ Refused GrayMode ∷ Refused CharacterWidth ∷ Refused RowWidth
+    ∷ Refused OddLines ∷ Refused ShortLine ∷ Refused LayerOrder ∷ Refused CursorShape ∷ Refused RowNumber ∷ Refused BufferSize ∷ [])
+    n Accepted
 
-of-number : (r : Refusal) → r ≡ numbered (number r)
+of-number : (r : Refusal) → Refused r ≡ answered (number r)
 of-number MemorySize = refl
 of-number UnknownCommand = refl
 of-number NothingWanted = refl
@@ -33,5 +38,20 @@ of-number CursorShape = refl
 of-number RowNumber = refl
 of-number BufferSize = refl
 
-pub numbers-distinct : (r s : Refusal) → number r ≡ number s → r ≡ s
-numbers-distinct r s e = of-number r ∙ ap numbered e ∙ sym (of-number s)
+of-reply : (a : Answer) → a ≡ answered (reply a .refusal)
+of-reply Accepted = refl
+of-reply (Refused r) = of-number r
+
+pub replies-distinct : (a b : Answer) → reply a ≡ reply b → a ≡ b
+replies-distinct a b e = of-reply a ∙ ap (λ (r : Reply). answered (r .refusal)) e ∙ sym (of-reply b)
+
+abbrev toRead : ℕ → Answer → ReadAnswer
+toRead v Accepted = Value v
+toRead v (Refused r) = ReadRefused r
+
+of-read : (a : ReadAnswer) → a ≡ toRead (readReply a .value) (answered (readReply a .refusal))
+of-read (Value v) = refl
+of-read (ReadRefused r) = ap (toRead 0) (of-number r)
+
+pub read-replies-distinct : (a b : ReadAnswer) → readReply a ≡ readReply b → a ≡ b
+read-replies-distinct a b e = of-read a ∙ ap (λ (r : Reply). toRead (r .value) (answered (r .refusal))) e ∙ sym (of-read b)

@@ -1,5 +1,5 @@
 -- Arithmetic of two-byte registers and addresses.
-use Prim.Native.Nat.{ℕ, _<_, _+_, _-_, _*_, _/_, _%_, _^_}
+use Prim.Native.Nat.{ℕ, _<_, _+_, _-_, _*_, _%_, _^_}
 use mathlib.Core.Path.{_≡_}
 use native.Mathlib.Omega.{arith}
 use Rattle.registers.specs.Parameters.{withLow, withHigh}

@@ -6,25 +6,6 @@ use Rattle.registers.specs.declared.Command.{Command}
 use Rattle.registers.specs.declared.Command.the-variants.{None, SystemSet, SleepIn, Disp, Scroll, CsrForm, CsrDir, Ovlay, CgramAdr, HdotScr, GrayScale, Csrw, Csrr, Mwrite, Mread}
 
 infix 45 _is_
--- the command of a byte, `None` where it is none of the 18 codes
-unfoldable pub commandOf : ℕ → Command
-commandOf b =
-    if b =? 0x40 then SystemSet
-    else if b =? 0x53 then SleepIn
-    else if b =? 0x44 then Scroll
-    else if b =? 0x5D then CsrForm
-    else if b =? 0x5B then Ovlay
-    else if b =? 0x5C then CgramAdr
-    else if b =? 0x5A then HdotScr
-    else if b =? 0x60 then GrayScale
-    else if b =? 0x46 then Csrw
-    else if b =? 0x47 then Csrr
-    else if b =? 0x42 then Mwrite
-    else if b =? 0x43 then Mread
-    else if 0x58 ≤? b && b ≤? 0x59 then Disp
-    else if 0x4C ≤? b && b ≤? 0x4F then CsrDir
-    else None
-
 -- a command's code, the first of a range; 0, which is no code, of `None`
 abbrev pub code : Command → ℕ
 code None = 0x00
@@ -42,6 +23,25 @@ code Csrw = 0x46
 code Csrr = 0x47
 code Mwrite = 0x42
 code Mread = 0x43
+
+-- the command of a byte, `None` where it is none of the 18 codes
+unfoldable pub commandOf : ℕ → Command
+commandOf b =
+    if b =? code SystemSet then SystemSet
+    else if b =? code SleepIn then SleepIn
+    else if b =? code Scroll then Scroll
+    else if b =? code CsrForm then CsrForm
+    else if b =? code Ovlay then Ovlay
+    else if b =? code CgramAdr then CgramAdr
+    else if b =? code HdotScr then HdotScr
+    else if b =? code GrayScale then GrayScale
+    else if b =? code Csrw then Csrw
+    else if b =? code Csrr then Csrr
+    else if b =? code Mwrite then Mwrite
+    else if b =? code Mread then Mread
+    else if 0x58 ≤? b && b ≤? 0x59 then Disp
+    else if 0x4C ≤? b && b ≤? 0x4F then CsrDir
+    else None
 
 -- the same command
 abbrev pub _is_ : Command → Command → Bool

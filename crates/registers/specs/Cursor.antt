@@ -14,8 +14,9 @@ nextAddress Down ap address = (address + ap) % 65536
 abbrev pub nextCursor : ℕ → Cursor → Cursor
 nextCursor ap c = record { address = nextAddress (c .direction) ap (c .address); direction = c .direction }
 
-abbrev pub moveCursor : Registers → Registers
-moveCursor r =
+-- registers with another cursor
+abbrev pub withCursor : Cursor → Registers → Registers
+withCursor c r =
     record {
       system = r .system;
       display = r .display;
@@ -25,6 +26,9 @@ moveCursor r =
       cgram = r .cgram;
       hdot = r .hdot;
       gray = r .gray;
-      cursor = nextCursor (r .system .ap) (r .cursor);
+      cursor = c;
       asleep = r .asleep;
     }
+
+abbrev pub moveCursor : Registers → Registers
+moveCursor r = withCursor (nextCursor (r .system .ap) (r .cursor)) r

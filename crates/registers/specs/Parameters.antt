@@ -6,7 +6,7 @@ use Rattle.registers.specs.Choice.{if_then_else_, _=?_}
 use Rattle.registers.specs.Counts.{codeOf}
 use Rattle.registers.specs.Commands.{_is_}
 use Rattle.registers.specs.declared.Command.{Command}
-use Rattle.registers.specs.declared.Command.the-variants.{None, SystemSet, SleepIn, Disp, Scroll, CsrForm, CsrDir, Ovlay, CgramAdr, HdotScr, GrayScale, Csrw, Csrr, Mwrite, Mread}
+use Rattle.registers.specs.declared.Command.the-variants.{SystemSet, SleepIn, Disp, Scroll, CsrForm, CsrDir, Ovlay, CgramAdr, HdotScr, GrayScale, Csrw}
 use Rattle.registers.specs.declared.Direction.{Direction}
 use Rattle.registers.specs.declared.Direction.the-variants.{Right, Left, Up, Down}
 use Rattle.registers.specs.declared.System.{System}

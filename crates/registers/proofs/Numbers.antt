@@ -2,6 +2,7 @@
 use Prim.Native.Nat.{ℕ}
 use mathlib.Core.List.{[], _∷_}
 use mathlib.Core.Path.{_≡_, refl, sym, ap, _∙_}
+use native.Mathlib.Omega.{arith}
 use lib.ListN.{getD}
 use Rattle.registers.specs.declared.Refusal.{Refusal}
 use Rattle.registers.specs.declared.Refusal.the-variants.{MemorySize, UnknownCommand, NothingWanted, NotAllowed, Asleep, NothingToRead, OutsideMemory, FontSize, GrayMode, CharacterWidth, RowWidth, OddLines, ShortLine, LayerOrder, CursorShape, RowNumber, BufferSize}
@@ -55,3 +56,9 @@ of-read (ReadRefused r) = ap (toRead 0) (of-number r)
 
 pub read-replies-distinct : (a b : ReadAnswer) → readReply a ≡ readReply b → a ≡ b
 read-replies-distinct a b e = of-read a ∙ ap (λ (r : Reply). toRead (r .value) (answered (r .refusal))) e ∙ sym (of-read b)
+
+pub number-not-0 : (r : Refusal) → number r ≡ 0 → ⊥
+number-not-0 r e =
+    let a : Refused r ≡ Accepted = of-number r ∙ ap answered e in
+    let z : _≡_ {A = ℕ} 0 1 = cc in
+    omega arith

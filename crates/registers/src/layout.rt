@@ -11,11 +11,7 @@ ghost use Rattle.registers.specs.Layout.{field, readSystem, readDisplay,
 fn read_field(limit: u8, v: u8) -> u8
     ensures { λ r. ⌜ r ≡ field limit v ⌝ }
 {
-    if v < limit {
-        v
-    } else {
-        0
-    }
+    if v < limit { v } else { 0 }
 }
 
 impl System {

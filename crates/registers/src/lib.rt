@@ -11,6 +11,7 @@ ghost use Rattle.registers.specs.Counts.{count};
 
 // How many bytes display memory has, and the font.
 pub const MEMORY_SIZE: usize = 32768;
+
 pub const FONT_SIZE: usize = 1280;
 
 // A code n as the manual stores it.

@@ -60,10 +60,10 @@ cursorRowOf r (Block block q) frame =
     if threeLayers (r .system .ws) (r .overlay) then cursorRow 0 0
     else if isText (r .overlay) block
     then (if cursorOn (r .display .fc) frame
-          then (if inShape (r .form) (q % ⁅ r .system .fy ⁆)
-                then cursorRow (lineAddress (sad (r .blocks) block) (r .system .ap) (q / ⁅ r .system .fy ⁆)) (firstBits ⁅ r .form .crx ⁆)
-                else cursorRow 0 0)
-          else cursorRow 0 0)
+    then (if inShape (r .form) (q % ⁅ r .system .fy ⁆)
+    then cursorRow (lineAddress (sad (r .blocks) block) (r .system .ap) (q / ⁅ r .system .fy ⁆)) (firstBits ⁅ r .form .crx ⁆)
+    else cursorRow 0 0)
+    else cursorRow 0 0)
     else cursorRow 0 0
 
 -- the byte of layer 1 with the cursor's bits inverted

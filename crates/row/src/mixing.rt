@@ -27,7 +27,8 @@ fn first_pairs(a: u8, b: u8, c: u8) -> u8
 fn first_nibbles(a: u8, b: u8, c: u8) -> u8
     ensures { λ r. ⌜ r ≡ firstNibbles a b c ⌝ }
 {
-    first_of(a / 16 % 16, b / 16 % 16, c / 16 % 16) % 16 * 16 + first_of(a % 16, b % 16, c % 16) % 16
+    first_of(a / 16 % 16, b / 16 % 16, c / 16 % 16) % 16 * 16
+        + first_of(a % 16, b % 16, c % 16) % 16
 }
 
 // At one bit a dot the first that is not 0 is the OR.

@@ -99,6 +99,7 @@ fn cursor_unfit(r: Registers) -> bool
 pub fn row_answer(r: Registers, memory: usize, font: usize, n: u32, buffer: usize) -> Answer
     requires { ⌜ r .gray < 3 ⌝ }
     ensures { λ a. ⌜ reply a .refusal ≡ rowRefusal r memory font n buffer ⌝ }
+    ensures { λ a. ⌜ (reply a .refusal ≡ 0 → n < 65536) ⌝ }
 {
     let s = r.system;
     if memory != MEMORY_SIZE {

@@ -49,7 +49,18 @@ fn paint(r: Registers, memory: &[u8], font: &[u8], frame: u32, n: u16, out: &mut
     let cursor = cursor_row(r, layer, frame);
     let two = lit_source(r, layer2(r, n), frame);
     let three = lit_source(r, layer3(r, n), frame);
-    columns(setup, one, two, three, cursor, memory, font, count.0, per, out);
+    columns(
+        setup,
+        one,
+        two,
+        three,
+        cursor,
+        memory,
+        font,
+        count.0,
+        per,
+        out,
+    );
 }
 
 // The dots of row n.
@@ -69,7 +80,14 @@ fn draw(r: Registers, memory: &[u8], font: &[u8], frame: u32, n: u16, out: &mut 
 }
 
 // Row n of a frame into a buffer of a byte a dot, which stands where the row is refused.
-pub fn compose(registers: Registers, memory: &[u8], font: &[u8], frame: u32, n: u32, out: &mut [u8]) -> Answer
+pub fn compose(
+    registers: Registers,
+    memory: &[u8],
+    font: &[u8],
+    frame: u32,
+    n: u32,
+    out: &mut [u8],
+) -> Answer
     ensures { λ a. ⌜ rowReply a (now (out .exit)) ≡ rowOutcome registers (now (memory .entry)) (now (font .entry)) frame n (now (out .entry)) ⌝ }
 {
     let r = registers.in_layout();

@@ -30,7 +30,7 @@ pub fn source_of(r: Registers, layer: LayerRow) -> Source
             let start = sad(r.blocks, block);
             if is_text(r.overlay, block) {
                 let height = system.fy.count();
-                return Source::Text(line_address(start, system.ap, q / height.0), (q % height.0) as u8);
+                return Source::Text(line_address(start, system.ap, q / height.0), q % height.0);
             }
             Source::Graphics(line_address(start, system.ap, q))
         }

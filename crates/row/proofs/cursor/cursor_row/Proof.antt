@@ -1,108 +1,30 @@
+use mathlib.Core.Path.{sym, _∙_}
+use Rattle.row.specs.Columns.{cursorRowOf}
+use native.Mathlib.Omega.{arith}
 use borrow.Author.Needs.{needs}
 use Rattle.row.proofs.cursor.cursor_row.Statement.{statement}
 use Rattle.row.proofs.cursor.cursor_row.Tie as tie
-use Rattle.row.proofs.cursor.cursor_row.Reads as reads
-use Rattle.row.proofs.cursor.cursor_row.Lts as lts
-use Rattle.registers.proofs.Code.count.Reads as count-reads
-use Rattle.row.proofs.cursor.first_bits.Reads as first-bits-reads
-use Rattle.row.proofs.cursor.in_shape.Reads as in-shape-reads
-use Rattle.row.proofs.flashing.flashes.Reads as flashes-reads
-use Rattle.row.proofs.layers.is_text.Reads as is-text-reads
-use Rattle.row.proofs.layers.sad.Reads as sad-reads
-use Rattle.row.proofs.layers.three_layers.Reads as three-layers-reads
-use Rattle.row.proofs.sources.line_address.Reads as line-address-reads
-
--- src/cursor.rt:48:30
-enum-told : tie.Need-enum-told
-enum-told c = search needs
-
--- src/cursor.rt:49:25
-enum-known-layer : tie.Need-enum-known-layer
-enum-known-layer c = search needs
-
--- src/cursor.rt:50:17
-count-requires : tie.Need-count-requires
-count-requires c κs = search needs
-
--- src/cursor.rt:51:16
-three-layers-requires : tie.Need-three-layers-requires
-three-layers-requires c κs = search needs
-
--- src/cursor.rt:52:17
-returns : tie.Need-returns
-returns c = ?
-
--- src/cursor.rt:54:16
-is-text-requires : tie.Need-is-text-requires
-is-text-requires c κs = search needs
-
--- src/cursor.rt:55:20
-flashes-requires : tie.Need-flashes-requires
-flashes-requires c κs = search needs
-
--- src/cursor.rt:56:39
-rem-in-shape : tie.Need-rem-in-shape
-rem-in-shape c = ?
-
--- src/cursor.rt:56:24
-in-shape-requires : tie.Need-in-shape-requires
-in-shape-requires c κs = search needs
-
--- src/cursor.rt:58:49
-sad-requires : tie.Need-sad-requires
-sad-requires c κs = search needs
-
--- src/cursor.rt:58:82
-div-line-address : tie.Need-div-line-address
-div-line-address c = ?
-
--- src/cursor.rt:58:36
-line-address-requires : tie.Need-line-address-requires
-line-address-requires c κs = search needs
-
--- src/cursor.rt:59:35
-first-bits-requires : tie.Need-first-bits-requires
-first-bits-requires c κs = search needs
-
--- src/cursor.rt:57:25
-returns-2 : tie.Need-returns-2
-returns-2 c = ?
-
--- src/cursor.rt:42:1
-returns-3 : tie.Need-returns-3
-returns-3 c = ?
-
--- src/cursor.rt:42:1
-returns-4 : tie.Need-returns-4
-returns-4 c = ?
-
--- src/cursor.rt:42:1
-returns-5 : tie.Need-returns-5
-returns-5 c = ?
-
--- src/cursor.rt:42:1
-returns-6 : tie.Need-returns-6
-returns-6 c = ?
 
 pub cursor-row-spec : {M : Type 1} → statement M
+unfolding cursorRowOf
 cursor-row-spec =
     tie.close
     (tie.spec
-    enum-told
-    enum-known-layer
-    count-requires
-    three-layers-requires
-    returns
-    is-text-requires
-    flashes-requires
-    rem-in-shape
-    in-shape-requires
-    sad-requires
-    div-line-address
-    line-address-requires
-    first-bits-requires
-    returns-2
-    returns-3
-    returns-4
-    returns-5
-    returns-6)
+    (λ c. search needs)
+    (λ c. search needs)
+    (λ c κs. search needs)
+    (λ c κs. search needs)
+    (λ c. let p = c .before .before .before .before in simp (p .layer .given .1, sym (c .before .three-layers .ensures) ∙ c .if1 .taken, c .before .before .count .ensures))
+    (λ c κs. search needs)
+    (λ c κs. search needs)
+    (λ c. rw (c .before .before .before .before .before .before .before .count .ensures) (omega arith))
+    (λ c κs. search needs)
+    (λ c κs. search needs)
+    (λ c. rw (c .before .before .before .before .before .before .before .before .before .before .before .count .ensures) (omega arith))
+    (λ c κs. search needs)
+    (λ c κs. search needs)
+    (λ c. let p = c .before .before .before in let q = p .before in let u = q .before in let v = u .before .before in let w = v .before in let x = w .before in let y = x .before in let z = y .before in let a = z .before in let b = a .before in let d = b .before .before in simp (d .layer .given .1, sym (a .three-layers .ensures) ∙ z .if1 .left, sym (y .is-text .ensures) ∙ x .if2 .taken, sym (w .flashes .ensures) ∙ v .if3 .taken, rw (b .count .ensures) at (sym (u .in-shape .ensures) ∙ q .if4 .taken), p .sad .ensures, c .before .line-address .ensures, c .first-bits .ensures, b .count .ensures))
+    (λ c. simp (c .enum-told .given .1))
+    (λ c. let p = c .before .before .before in let q = p .before in let u = q .before in let v = u .before in let w = v .before in let x = w .before in let y = x .before in let z = y .before .before in simp (z .layer .given .1, sym (x .three-layers .ensures) ∙ w .if1 .left, sym (v .is-text .ensures) ∙ u .if2 .taken, sym (q .flashes .ensures) ∙ p .if3 .taken, rw (y .count .ensures) at (sym (c .before .in-shape .ensures) ∙ c .if4 .left), y .count .ensures))
+    (λ c. let p = c .before .before .before in let q = p .before in let u = q .before in let v = u .before in let w = v .before .before in simp (w .layer .given .1, sym (u .three-layers .ensures) ∙ q .if1 .left, sym (p .is-text .ensures) ∙ c .before .before .if2 .taken, sym (c .before .flashes .ensures) ∙ c .if3 .left, v .count .ensures))
+    (λ c. let p = c .before .before .before in let q = p .before in let u = q .before .before in simp (u .layer .given .1, sym (p .three-layers .ensures) ∙ c .before .before .if1 .left, sym (c .before .is-text .ensures) ∙ c .if2 .left, q .count .ensures)))

@@ -1,20 +1,16 @@
+use Rattle.row.specs.Glyphs.{fetch}
+use native.Mathlib.Nat.{mod-eq-of-lt}
+use Prim.Native.Nat.{ℕ}
+use lib.ListN.{List·getD-eq-default}
 use borrow.Author.Needs.{needs}
 use Rattle.row.proofs.glyphs.fetch.Statement.{statement}
 use Rattle.row.proofs.glyphs.fetch.Tie as tie
-use Rattle.row.proofs.glyphs.fetch.Reads as reads
-use Rattle.row.proofs.glyphs.fetch.Lts as lts
-
--- src/glyphs.rt:13:9
-shared-slice-read-result : tie.Need-shared-slice-read-result
-shared-slice-read-result c = search needs
-
--- src/glyphs.rt:8:1
-returns : tie.Need-returns
-returns c = ?
-
--- src/glyphs.rt:8:1
-returns-2 : tie.Need-returns-2
-returns-2 c = ?
 
 pub fetch-spec : {M : Type 1} → statement M
-fetch-spec = tie.close (tie.spec shared-slice-read-result returns returns-2)
+unfolding fetch
+fetch-spec =
+    tie.close
+    (tie.spec
+    (λ c. search needs)
+    (λ c. rw (mod-eq-of-lt (c .before .before .fits .address .fits)))
+    (λ c. rw (mod-eq-of-lt (c .before .fits .address .fits), List·getD-eq-default {A = ℕ} (c .before .args .memory .now) 0 (c .if1 .left))))

@@ -1,21 +1,14 @@
+use mathlib.Core.Path.{sym, _∙_}
+use Rattle.row.specs.Layers.{layer3}
 use borrow.Author.Needs.{needs}
 use Rattle.row.proofs.layers.layer3.Statement.{statement}
 use Rattle.row.proofs.layers.layer3.Tie as tie
-use Rattle.row.proofs.layers.layer3.Reads as reads
-use Rattle.row.proofs.layers.layer3.Lts as lts
-use Rattle.row.proofs.layers.three_layers.Reads as three-layers-reads
-
--- src/layers.rt:118:8
-three-layers-requires : tie.Need-three-layers-requires
-three-layers-requires c κs = search needs
-
--- src/layers.rt:114:1
-returns : tie.Need-returns
-returns c = ?
-
--- src/layers.rt:114:1
-returns-2 : tie.Need-returns-2
-returns-2 c = ?
 
 pub layer3-spec : {M : Type 1} → statement M
-layer3-spec = tie.close (tie.spec three-layers-requires returns returns-2)
+unfolding layer3
+layer3-spec =
+    tie.close
+    (tie.spec
+    (λ c κs. search needs)
+    (λ c. simp (sym (c .before .three-layers .ensures) ∙ c .if1 .taken))
+    (λ c. simp (sym (c .before .three-layers .ensures) ∙ c .if1 .left)))

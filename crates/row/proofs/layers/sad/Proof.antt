@@ -1,23 +1,14 @@
+use borrow.Author.Tests.{eq-eqb, ne-eqb}
+use Rattle.row.specs.Layers.{sad}
 use Rattle.row.proofs.layers.sad.Statement.{statement}
 use Rattle.row.proofs.layers.sad.Tie as tie
-use Rattle.row.proofs.layers.sad.Reads as reads
-use Rattle.row.proofs.layers.sad.Lts as lts
-
--- src/layers.rt:27:9
-returns : tie.Need-returns
-returns c = ?
-
--- src/layers.rt:30:9
-returns-2 : tie.Need-returns-2
-returns-2 c = ?
-
--- src/layers.rt:33:9
-returns-3 : tie.Need-returns-3
-returns-3 c = ?
-
--- src/layers.rt:23:1
-returns-4 : tie.Need-returns-4
-returns-4 c = ?
 
 pub sad-spec : {M : Type 1} → statement M
-sad-spec = tie.close (tie.spec returns returns-2 returns-3 returns-4)
+unfolding sad
+sad-spec =
+    tie.close
+    (tie.spec
+    (λ c. simp (eq-eqb _ _ (c .if1 .taken)))
+    (λ c. simp (ne-eqb _ _ (c .before .if1 .left), eq-eqb _ _ (c .if2 .taken)))
+    (λ c. simp (ne-eqb _ _ (c .before .before .if1 .left), ne-eqb _ _ (c .before .if2 .left), eq-eqb _ _ (c .if3 .taken)))
+    (λ c. simp (ne-eqb _ _ (c .before .before .if1 .left), ne-eqb _ _ (c .before .if2 .left), ne-eqb _ _ (c .if3 .left))))

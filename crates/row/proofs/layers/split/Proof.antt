@@ -1,21 +1,14 @@
+use borrow.Author.Tests.{le-ltb, lt-ltb}
+use Rattle.row.specs.Layers.{split}
 use borrow.Author.Needs.{needs}
 use Rattle.row.proofs.layers.split.Statement.{statement}
 use Rattle.row.proofs.layers.split.Tie as tie
-use Rattle.row.proofs.layers.split.Reads as reads
-use Rattle.row.proofs.layers.split.Lts as lts
-use Rattle.registers.proofs.Code.count.Reads as count-reads
-
--- src/layers.rt:56:9
-count-requires : tie.Need-count-requires
-count-requires c κs = search needs
-
--- src/layers.rt:53:1
-returns : tie.Need-returns
-returns c = ?
-
--- src/layers.rt:53:1
-returns-2 : tie.Need-returns-2
-returns-2 c = ?
 
 pub split-spec : {M : Type 1} → statement M
-split-spec = tie.close (tie.spec count-requires returns returns-2)
+unfolding split
+split-spec =
+    tie.close
+    (tie.spec
+    (λ c κs. search needs)
+    (λ c. simp (lt-ltb _ _ (rw (c .before .before .count .ensures) at (c .if1 .taken)), c .before .before .count .ensures))
+    (λ c. let p = c .before .before .before in simp (le-ltb _ _ (rw (p .count .ensures) at (c .before .if1 .left)), p .count .ensures)))

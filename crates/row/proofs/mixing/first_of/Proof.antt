@@ -1,19 +1,13 @@
+use borrow.Author.Tests.{eq-eqb, ne-eqb}
+use Rattle.row.specs.Mixing.{firstOf}
 use Rattle.row.proofs.mixing.first_of.Statement.{statement}
 use Rattle.row.proofs.mixing.first_of.Tie as tie
-use Rattle.row.proofs.mixing.first_of.Reads as reads
-use Rattle.row.proofs.mixing.first_of.Lts as lts
-
--- src/mixing.rt:11:13
-returns : tie.Need-returns
-returns c = ?
-
--- src/mixing.rt:13:9
-returns-2 : tie.Need-returns-2
-returns-2 c = ?
-
--- src/mixing.rt:6:1
-returns-3 : tie.Need-returns-3
-returns-3 c = ?
 
 pub first-of-spec : {M : Type 1} → statement M
-first-of-spec = tie.close (tie.spec returns returns-2 returns-3)
+unfolding firstOf
+first-of-spec =
+    tie.close
+    (tie.spec
+    (λ c. simp (eq-eqb _ _ (c .before .if1 .taken), eq-eqb _ _ (c .if2 .taken)))
+    (λ c. simp (eq-eqb _ _ (c .before .if1 .taken), ne-eqb _ _ (c .if2 .left)))
+    (λ c. simp (ne-eqb _ _ (c .if1 .left))))

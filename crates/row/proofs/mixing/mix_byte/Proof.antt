@@ -1,52 +1,19 @@
+use borrow.Author.Tests.{eq-eqb, ne-eqb}
+use Rattle.row.specs.Columns.{mixByte}
 use borrow.Author.Needs.{needs}
 use Rattle.row.proofs.mixing.mix_byte.Statement.{statement}
 use Rattle.row.proofs.mixing.mix_byte.Tie as tie
-use Rattle.row.proofs.mixing.mix_byte.Reads as reads
-use Rattle.row.proofs.mixing.mix_byte.Lts as lts
-use Rattle.row.proofs.mixing.first_nibbles.Reads as first-nibbles-reads
-use Rattle.row.proofs.mixing.first_pairs.Reads as first-pairs-reads
-
--- src/mixing.rt:38:9
-returns : tie.Need-returns
-returns c = ?
-
--- src/mixing.rt:41:9
-returns-2 : tie.Need-returns-2
-returns-2 c = ?
-
--- src/mixing.rt:44:9
-returns-3 : tie.Need-returns-3
-returns-3 c = ?
-
--- src/mixing.rt:47:9
-returns-4 : tie.Need-returns-4
-returns-4 c = ?
-
--- src/mixing.rt:50:9
-first-pairs-requires : tie.Need-first-pairs-requires
-first-pairs-requires c κs = search needs
-
--- src/mixing.rt:50:9
-returns-5 : tie.Need-returns-5
-returns-5 c = ?
-
--- src/mixing.rt:52:5
-first-nibbles-requires : tie.Need-first-nibbles-requires
-first-nibbles-requires c κs = search needs
-
--- src/mixing.rt:34:1
-returns-6 : tie.Need-returns-6
-returns-6 c = ?
 
 pub mix-byte-spec : {M : Type 1} → statement M
+unfolding mixByte
 mix-byte-spec =
     tie.close
     (tie.spec
-    returns
-    returns-2
-    returns-3
-    returns-4
-    first-pairs-requires
-    returns-5
-    first-nibbles-requires
-    returns-6)
+    (λ c. simp (eq-eqb _ _ (c .if1 .taken)))
+    (λ c. simp (ne-eqb _ _ (c .before .if1 .left), eq-eqb _ _ (c .if2 .taken)))
+    (λ c. simp (ne-eqb _ _ (c .before .before .if1 .left), ne-eqb _ _ (c .before .if2 .left), eq-eqb _ _ (c .if3 .taken)))
+    (λ c. let p = c .before .before .before in simp (ne-eqb _ _ (p .if1 .left), ne-eqb _ _ (c .before .before .if2 .left), ne-eqb _ _ (c .before .if3 .left), eq-eqb _ _ (c .if4 .taken)))
+    (λ c κs. search needs)
+    (λ c. let p = c .before .before .before in let q = p .before in let u = q .before in simp (ne-eqb _ _ (u .if1 .left), ne-eqb _ _ (q .if2 .left), ne-eqb _ _ (p .if3 .left), ne-eqb _ _ (c .before .before .if4 .left), eq-eqb _ _ (c .before .if5 .taken), c .first-pairs .ensures))
+    (λ c κs. search needs)
+    (λ c. let p = c .before .before .before in let q = p .before in let u = q .before in simp (ne-eqb _ _ (u .if1 .left), ne-eqb _ _ (q .if2 .left), ne-eqb _ _ (p .if3 .left), ne-eqb _ _ (c .before .before .if4 .left), ne-eqb _ _ (c .before .if5 .left), c .first-nibbles .ensures)))

@@ -1,25 +1,20 @@
+use borrow.Author.Tests.{eq-eqb}
+use mathlib.Core.Path.{sym, ap, _≡_}
+use Rattle.row.specs.Dots.{dotsPerColumn}
+use Prim.Native.Nat.{ℕ, _/_, _^_}
+use Rattle.registers.specs.Choice.{if_then_else_, _=?_}
+use Rattle.registers.specs.Counts.{⁅_⁆}
+use native.Mathlib.Omega.{arith}
 use borrow.Author.Needs.{needs}
 use Rattle.row.proofs.refusals.dots_per_column.Statement.{statement}
 use Rattle.row.proofs.refusals.dots_per_column.Tie as tie
-use Rattle.row.proofs.refusals.dots_per_column.Reads as reads
-use Rattle.row.proofs.refusals.dots_per_column.Lts as lts
-use Rattle.registers.proofs.Code.count.Reads as count-reads
-
--- src/refusals.rt:20:16
-count-requires : tie.Need-count-requires
-count-requires c κs = search needs
-
--- src/refusals.rt:20:9
-returns : tie.Need-returns
-returns c = ?
-
--- src/refusals.rt:23:9
-returns-2 : tie.Need-returns-2
-returns-2 c = ?
-
--- src/refusals.rt:14:1
-returns-3 : tie.Need-returns-3
-returns-3 c = ?
 
 pub dots-per-column-spec : {M : Type 1} → statement M
-dots-per-column-spec = tie.close (tie.spec count-requires returns returns-2 returns-3)
+unfolding dotsPerColumn
+dots-per-column-spec =
+    tie.close
+    (tie.spec
+    (λ c κs. search needs)
+    (λ c. rw (c .count .ensures, eq-eqb _ _ (c .before .before .if1 .taken)))
+    (λ c. sym (ap (λ (g : ℕ). if g =? 0 then ⁅ c .before .before .before .before .args .r .system .fx ⁆ else 8 / 2 ^ g) (c .if2 .taken)))
+    (λ c. let e : c .before .before .before .before .args .r .gray ≡ 2 = omega (arith, c .before .before .before .before .pre, c .if2 .left, c .before .before .if1 .left) in sym (ap (λ (g : ℕ). if g =? 0 then ⁅ c .before .before .before .before .args .r .system .fx ⁆ else 8 / 2 ^ g) e)))

@@ -1,48 +1,47 @@
-use borrow.Author.Needs.{needs}
+use native.Mathlib.Omega.{arith}
+use mathlib.Core.List.{[], _∷_}
+use Prim.Native.Nat.{_/_, _%_}
+use native.Mathlib.Nat.{div-one}
+use lib.ListN.{length-set}
+use Rattle.row.specs.Dots.{dotOf, table}
+use Rattle.row.proofs.Tables.{all-set}
 use Rattle.row.proofs.spreading.spread_eight.Statement.{statement}
 use Rattle.row.proofs.spreading.spread_eight.Tie as tie
-use Rattle.row.proofs.spreading.spread_eight.Reads as reads
-use Rattle.row.proofs.spreading.spread_eight.Lts as lts
 
--- src/spreading.rt:25:5
 slice-write-out : tie.Need-slice-write-out
-slice-write-out c = search needs
+slice-write-out c = omega arith
 
--- src/spreading.rt:26:5
 slice-write-out-2 : tie.Need-slice-write-out-2
-slice-write-out-2 c = search needs
+slice-write-out-2 c = simp length-set (omega arith)
 
--- src/spreading.rt:27:5
 slice-write-out-3 : tie.Need-slice-write-out-3
-slice-write-out-3 c = search needs
+slice-write-out-3 c = simp length-set (omega arith)
 
--- src/spreading.rt:28:5
 slice-write-out-4 : tie.Need-slice-write-out-4
-slice-write-out-4 c = search needs
+slice-write-out-4 c = simp length-set (omega arith)
 
--- src/spreading.rt:29:5
 slice-write-out-5 : tie.Need-slice-write-out-5
-slice-write-out-5 c = ?
+slice-write-out-5 c = simp length-set (omega arith)
 
--- src/spreading.rt:30:5
 slice-write-out-6 : tie.Need-slice-write-out-6
-slice-write-out-6 c = ?
+slice-write-out-6 c = simp length-set (omega arith)
 
--- src/spreading.rt:31:5
 slice-write-out-7 : tie.Need-slice-write-out-7
-slice-write-out-7 c = ?
+slice-write-out-7 c = simp length-set (omega arith)
 
--- src/spreading.rt:32:5
 slice-write-out-8 : tie.Need-slice-write-out-8
-slice-write-out-8 c = ?
+slice-write-out-8 c = simp length-set (omega arith)
 
--- src/spreading.rt:21:1
 same-length : tie.Need-same-length
-same-length c = search needs
+same-length c = simp length-set
 
--- src/spreading.rt:21:1
 returns : tie.Need-returns
-returns c = ?
+unfolding table dotOf
+returns c =
+    simp div-one
+    (all-set
+    (c .args .b / 128 % 2 ∷ c .args .b / 64 % 2 ∷ c .args .b / 32 % 2 ∷ c .args .b / 16 % 2 ∷ c .args .b / 8 % 2 ∷ c .args .b / 4 % 2 ∷ c .args .b / 2 % 2 ∷ c .args .b % 2 ∷ [])
+    (c .args .out .now) (c .pre))
 
 pub spread-eight-spec : {M : Type 1} → statement M
 spread-eight-spec =

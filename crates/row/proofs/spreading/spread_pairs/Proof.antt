@@ -1,32 +1,30 @@
 use borrow.Author.Needs.{needs}
+use mathlib.Core.List.{[], _∷_}
+use Prim.Native.Nat.{_/_, _%_}
+use native.Mathlib.Nat.{div-one}
+use Rattle.row.specs.Dots.{dotOf, table}
+use Rattle.row.proofs.Tables.{all-set}
 use Rattle.row.proofs.spreading.spread_pairs.Statement.{statement}
 use Rattle.row.proofs.spreading.spread_pairs.Tie as tie
-use Rattle.row.proofs.spreading.spread_pairs.Reads as reads
-use Rattle.row.proofs.spreading.spread_pairs.Lts as lts
 
--- src/spreading.rt:39:5
 slice-write-out : tie.Need-slice-write-out
 slice-write-out c = search needs
 
--- src/spreading.rt:40:5
 slice-write-out-2 : tie.Need-slice-write-out-2
 slice-write-out-2 c = search needs
 
--- src/spreading.rt:41:5
 slice-write-out-3 : tie.Need-slice-write-out-3
 slice-write-out-3 c = search needs
 
--- src/spreading.rt:42:5
 slice-write-out-4 : tie.Need-slice-write-out-4
 slice-write-out-4 c = search needs
 
--- src/spreading.rt:35:1
 same-length : tie.Need-same-length
 same-length c = search needs
 
--- src/spreading.rt:35:1
 returns : tie.Need-returns
-returns c = ?
+unfolding table dotOf
+returns c = simp div-one (all-set (c .args .b / 64 % 4 ∷ c .args .b / 16 % 4 ∷ c .args .b / 4 % 4 ∷ c .args .b % 4 ∷ []) (c .args .out .now) (c .pre))
 
 pub spread-pairs-spec : {M : Type 1} → statement M
 spread-pairs-spec =

@@ -1,0 +1,84 @@
+-- What an accepted row has, and what a row leaves.
+use Prim.Native.Nat.{ℕ, suc, _+_, _<_, _≤_}
+use mathlib.Core.Bool.{Bool, true, false, not, _&&_}
+use mathlib.Core.List.{List}
+use mathlib.Core.Path.{_≡_, refl, subst}
+use native.Mathlib.Omega.{arith}
+use lib.Dec.{T}
+use lib.ListN.{length}
+use borrow.Author.Tests.{ltb-true, ltb-false, eqb-true, not-false, ne-eqb}
+use Rattle.registers.specs.declared.Answer.the-variants.{Accepted, Refused}
+use Rattle.registers.specs.declared.Answer.{Answer}
+use Rattle.registers.specs.declared.Refusal.{Refusal}
+use Rattle.registers.specs.declared.Registers.{Registers}
+use Rattle.registers.specs.Choice.{if_then_else_, _<?_, _≤?_, _=?_}
+use Rattle.registers.specs.Counts.{⁅_⁆}
+use Rattle.registers.specs.Refusals.{number, reply}
+use Rattle.registers.specs.Sizes.{memorySize, fontSize}
+use Rattle.registers.specs.Layout.{field, inLayout}
+use Rattle.registers.proofs.Numbers.{number-not-0}
+use Rattle.row.specs.Dots.{width, dots}
+use Rattle.row.specs.Refusals.{grayUnfit, linesOdd, orderUnfit, cursorUnfit, rowRefusal}
+use Rattle.row.specs.Rows.{rowReply, rowOutcome}
+use Rattle.row.specs.Columns.{Composable}
+
+-- a test that would refuse has failed
+passed : (b : Bool) (k x : ℕ) → (if b then suc k else x) ≡ 0 → (b ≡ false) × (x ≡ 0)
+passed true k x e = absurd (omega arith)
+passed false k x e = (refl, e)
+
+gray-graphics : (r : Registers) → grayUnfit r ≡ false → (r .gray ≡ 0 → ⊥) → (r .overlay .dm1 ≡ true) × (r .overlay .dm2 ≡ true)
+unfolding grayUnfit
+gray-graphics r e ne = go (r .gray =? 0) (r .overlay .dm2) (r .overlay .dm1) (ne-eqb (r .gray) 0 ne) e
+  where
+    go : (z d2 d1 : Bool) → z ≡ false → (not z && not (d2 && d1 && ⁅ r .system .fx ⁆ =? 8)) ≡ false → (d1 ≡ true) × (d2 ≡ true)
+    go true d2 d1 f g = absurd (subst T f tt)
+    go false true true f g = (refl, refl)
+    go false true false f g = absurd (subst T g tt)
+    go false false d1 f g = absurd (subst T g tt)
+
+-- a grey code as it is read
+pub gray-code : (registers : Registers) → inLayout registers .gray < 3
+unfolding inLayout field
+gray-code registers = go (registers .gray <? 3) (ltb-true (registers .gray) 3)
+  where
+    go : (b : Bool) → (b ≡ true → registers .gray < 3) → (if b then registers .gray else 0) < 3
+    go true f = f refl
+    go false f = omega arith
+
+pub record Composed (r : Registers) (buffer : ℕ) : Type 0 where
+  pub whole : buffer ≡ width r
+  pub composable : Composable r
+
+pub accepted : (r : Registers) → r .gray < 3 → (memory font n buffer : ℕ) → rowRefusal r memory font n buffer ≡ 0 → Composed r buffer
+unfolding rowRefusal
+accepted r code memory font n buffer e =
+    let p1 = passed (not (memory =? memorySize)) 0 _ e in
+    let p8 = passed (not (font =? fontSize)) 7 _ (p1 .1) in
+    let p9 = passed (grayUnfit r) 8 _ (p8 .1) in
+    let p10 = passed (8 <? ⁅ r .system .fx ⁆) 9 _ (p9 .1) in
+    let p11 = passed (640 <? width r) 10 _ (p10 .1) in
+    let p12 = passed (linesOdd r) 11 _ (p11 .1) in
+    let p13 = passed (r .system .tcr .0 <? r .system .cr .0 + 4) 12 _ (p12 .1) in
+    let p14 = passed (orderUnfit r) 13 _ (p13 .1) in
+    let p15 = passed (cursorUnfit r) 14 _ (p14 .1) in
+    let p16 = passed (⁅ r .system .lf ⁆ ≤? n) 15 _ (p15 .1) in
+    let p17 = passed (not (buffer =? width r)) 16 _ (p16 .1) in
+    record {
+      whole = eqb-true buffer (width r) (not-false (buffer =? width r) (p17 .0));
+      composable = record { code = code; narrow = ltb-false 8 ⁅ r .system .fx ⁆ (p10 .0); graphics = gray-graphics r (p9 .0) };
+    }
+
+-- the outcome of an accepted row, and of a refused one
+
+pub outcome-accepted : (registers : Registers) (memory font : List ℕ) (frame n : ℕ) (out : List ℕ) {drawn : List ℕ}
+    → rowRefusal (inLayout registers) (length memory) (length font) n (length out) ≡ 0 → drawn ≡ dots (inLayout registers) memory font frame n
+    → rowReply Accepted drawn ≡ rowOutcome registers memory font frame n out
+unfolding rowOutcome
+outcome-accepted registers memory font frame n out e d = rw (e, d)
+
+pub outcome-refused : (registers : Registers) (memory font : List ℕ) (frame n : ℕ) (out : List ℕ) (a : Answer) {refusal : Refusal}
+    → a ≡ Refused refusal → reply a .refusal ≡ rowRefusal (inLayout registers) (length memory) (length font) n (length out)
+    → rowReply (Refused refusal) out ≡ rowOutcome registers memory font frame n out
+unfolding rowOutcome
+outcome-refused registers memory font frame n out a {refusal} r e = rw (← e, r, ne-eqb (number refusal) 0 (number-not-0 refusal))

@@ -1,0 +1,4 @@
+pub mod Tables
+pub mod Addresses
+pub mod Dots
+pub mod Accepting

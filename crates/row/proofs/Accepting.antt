@@ -6,7 +6,7 @@ use mathlib.Core.Path.{_≡_, refl, subst}
 use native.Mathlib.Omega.{arith}
 use lib.Dec.{T}
 use lib.ListN.{length}
-use borrow.Author.Tests.{ltb-true, ltb-false, eqb-true, not-false, ne-eqb}
+use borrow.Author.Tests.{ltb-true, ltb-false, leb-false, eqb-true, not-false, ne-eqb}
 use Rattle.registers.specs.declared.Answer.the-variants.{Accepted, Refused}
 use Rattle.registers.specs.declared.Answer.{Answer}
 use Rattle.registers.specs.declared.Refusal.{Refusal}
@@ -27,7 +27,7 @@ passed : (b : Bool) (k x : ℕ) → (if b then suc k else x) ≡ 0 → (b ≡ fa
 passed true k x e = absurd (omega arith)
 passed false k x e = (refl, e)
 
-gray-graphics : (r : Registers) → grayUnfit r ≡ false → (r .gray ≡ 0 → ⊥) → (r .overlay .dm1 ≡ true) × (r .overlay .dm2 ≡ true)
+gray-graphics : (r : Registers) → grayUnfit (r .gray) (r .overlay) (r .system .fx) ≡ false → (r .gray ≡ 0 → ⊥) → (r .overlay .dm1 ≡ true) × (r .overlay .dm2 ≡ true)
 unfolding grayUnfit
 gray-graphics r e ne = go (r .gray =? 0) (r .overlay .dm2) (r .overlay .dm1) (ne-eqb (r .gray) 0 ne) e
   where
@@ -46,25 +46,27 @@ gray-code registers = go (registers .gray <? 3) (ltb-true (registers .gray) 3)
     go true f = f refl
     go false f = omega arith
 
-pub record Composed (r : Registers) (buffer : ℕ) : Type 0 where
+pub record Composed (r : Registers) (n buffer : ℕ) : Type 0 where
+  pub below : n < ⁅ r .system .lf ⁆
   pub whole : buffer ≡ width r
   pub composable : Composable r
 
-pub accepted : (r : Registers) → r .gray < 3 → (memory font n buffer : ℕ) → rowRefusal r memory font n buffer ≡ 0 → Composed r buffer
+pub accepted : (r : Registers) → r .gray < 3 → (memory font n buffer : ℕ) → rowRefusal r memory font n buffer ≡ 0 → Composed r n buffer
 unfolding rowRefusal
 accepted r code memory font n buffer e =
     let p1 = passed (not (memory =? memorySize)) 0 _ e in
     let p8 = passed (not (font =? fontSize)) 7 _ (p1 .1) in
-    let p9 = passed (grayUnfit r) 8 _ (p8 .1) in
+    let p9 = passed (grayUnfit (r .gray) (r .overlay) (r .system .fx)) 8 _ (p8 .1) in
     let p10 = passed (8 <? ⁅ r .system .fx ⁆) 9 _ (p9 .1) in
     let p11 = passed (640 <? width r) 10 _ (p10 .1) in
-    let p12 = passed (linesOdd r) 11 _ (p11 .1) in
+    let p12 = passed (linesOdd (r .system .ws) (r .system .lf)) 11 _ (p11 .1) in
     let p13 = passed (r .system .tcr .0 <? r .system .cr .0 + 4) 12 _ (p12 .1) in
-    let p14 = passed (orderUnfit r) 13 _ (p13 .1) in
-    let p15 = passed (cursorUnfit r) 14 _ (p14 .1) in
+    let p14 = passed (orderUnfit (r .system .ws) (r .overlay) (r .blocks)) 13 _ (p13 .1) in
+    let p15 = passed (cursorUnfit (r .display .fc) (r .form) (r .system .fx)) 14 _ (p14 .1) in
     let p16 = passed (⁅ r .system .lf ⁆ ≤? n) 15 _ (p15 .1) in
     let p17 = passed (not (buffer =? width r)) 16 _ (p16 .1) in
     record {
+      below = leb-false ⁅ r .system .lf ⁆ n (p16 .0);
       whole = eqb-true buffer (width r) (not-false (buffer =? width r) (p17 .0));
       composable = record { code = code; narrow = ltb-false 8 ⁅ r .system .fx ⁆ (p10 .0); graphics = gray-graphics r (p9 .0) };
     }

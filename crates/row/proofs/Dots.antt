@@ -21,8 +21,8 @@ use Rattle.row.specs.Glyphs.{fetch, glyphByte, codeAddress, blockByte}
 use Rattle.row.specs.Flashing.{isLit, cursorOn}
 use Rattle.row.specs.Cursor.{inShape, hasCursor, inverted}
 use Rattle.row.specs.Mixing.{firstOf, mix}
-use Rattle.row.specs.Dots.{bitsPerDot, dotsPerColumn, width, dotOf, layerByte, columnDot, dot, table, dots}
-use Rattle.row.specs.Columns.{lineAddress, sourceOf, litSource, columnSetup, sourceByte, firstBits, cursorRow, cursorRowOf, invertedByte, firstPairs, firstNibbles, mixByte, columnByte, columnsDot, shownDot, Room, Composable}
+use Rattle.row.specs.Dots.{bitsPerDot, dotsPerColumn, perColumn, width, dotOf, layerByte, columnDot, dot, table, dots}
+use Rattle.row.specs.Columns.{lineAddress, blockSource, layerSource, columnSetup, sourceByte, firstBits, cursorRow, cursorMask, cursorRowOf, invertedByte, firstPairs, firstNibbles, mixByte, columnByte, columnsDot, shownDot, Room, Composable}
 use Rattle.row.proofs.Tables.{same-table, lt-or-le}
 use Rattle.row.proofs.Addresses.{fetch-at}
 
@@ -56,8 +56,8 @@ all-below f (suc n) t k h =
 -- A layer's byte
 
 source-layer : (r : Registers) (memory font : List ℕ) (frame : ℕ) (layer : LayerRow) (c : ℕ)
-    → sourceByte (columnSetup r) (litSource r layer frame) memory font c ≡ layerByte r memory font frame layer c
-unfolding litSource sourceOf sourceByte layerByte blockByte codeAddress
+    → sourceByte (columnSetup r) (layerSource r layer frame) memory font c ≡ layerByte r memory font frame layer c
+unfolding layerSource blockSource sourceByte layerByte blockByte codeAddress
 source-layer r memory font frame Nothing c = refl
 source-layer r memory font frame (Block block q) c = go (isLit (r .display .fp) block frame) (isText (r .overlay) block)
   where
@@ -181,9 +181,9 @@ xor-bit : (b : Bool) (d : ℕ) → d < 2 → bitXor d (if b then 1 else 0) ≡ (
 xor-bit true d h = below2 (λ d. bitXor d 1 ≡ 1 - d) refl refl d h
 xor-bit false d h = xor-zero-r d
 
-no-cursor : (k cursor c a j : ℕ) → dotOf k (invertedByte (cursorRow 0 0) cursor c a) j ≡ dotOf k a j
+no-cursor : (k start cursor c a j : ℕ) → dotOf k (invertedByte (cursorRow start 0) cursor c a) j ≡ dotOf k a j
 unfolding invertedByte
-no-cursor k cursor c a j = go ((0 + c) % 65536 =? cursor)
+no-cursor k start cursor c a j = go ((start + c) % 65536 =? cursor)
   where
     go : (b : Bool) → dotOf k (if b then bitXor a 0 else a) j ≡ dotOf k a j
     go true = ap (λ (x : ℕ). dotOf k x j) (xor-zero-r a)
@@ -218,8 +218,8 @@ text-one-bit r h block e = ⊎-elim (λ z. z) (λ pos. absurd (no-text pos)) (eq
 cursor-dots : (r : Registers) (frame : ℕ) (layer : LayerRow) (c a j : ℕ) → Composable r → (r .gray ≡ 0 → j < 8)
     → dotOf (bitsPerDot r) (invertedByte (cursorRowOf r layer frame) (r .cursor .address) c a) j
     ≡ inverted (hasCursor r frame layer c) ⁅ r .form .crx ⁆ j (dotOf (bitsPerDot r) a j)
-unfolding cursorRowOf hasCursor inverted codeAddress
-cursor-dots r frame Nothing c a j h low = no-cursor (bitsPerDot r) (r .cursor .address) c a j
+unfolding cursorRowOf cursorMask hasCursor inverted codeAddress
+cursor-dots r frame Nothing c a j h low = no-cursor (bitsPerDot r) 0 (r .cursor .address) c a j
 cursor-dots r frame (Block block q) c a j h low =
     go (threeLayers (r .system .ws) (r .overlay)) (isText (r .overlay) block) (cursorOn (r .display .fc) frame) (inShape (r .form) (q % ⁅ r .system .fy ⁆)) (text-one-bit r h block)
   where
@@ -232,8 +232,8 @@ cursor-dots r frame (Block block q) c a j h low =
     code : ℕ
     code = sad (r .blocks) block + q / ⁅ r .system .fy ⁆ * r .system .ap + c
 
-    off : dotOf (bitsPerDot r) (invertedByte (cursorRow 0 0) (r .cursor .address) c a) j ≡ dotOf (bitsPerDot r) a j
-    off = no-cursor (bitsPerDot r) (r .cursor .address) c a j
+    off : dotOf (bitsPerDot r) (invertedByte (cursorRow start 0) (r .cursor .address) c a) j ≡ dotOf (bitsPerDot r) a j
+    off = no-cursor (bitsPerDot r) start (r .cursor .address) c a j
 
     hit : r .gray ≡ 0
         → dotOf (bitsPerDot r) (invertedByte (cursorRow start (firstBits crx)) (r .cursor .address) c a) j
@@ -244,7 +244,7 @@ cursor-dots r frame (Block block q) c a j h low =
         (with-cursor start (r .cursor .address) c a j crx (low e) ∙ ap (λ (x : ℕ). inverted (x =? r .cursor .address) crx j (dotOf 1 a j)) (omega arith))
 
     go : (three text on shape : Bool) → (text ≡ true → r .gray ≡ 0)
-        → dotOf (bitsPerDot r) (invertedByte (if three then cursorRow 0 0 else if text then (if on then (if shape then cursorRow start (firstBits crx) else cursorRow 0 0) else cursorRow 0 0) else cursorRow 0 0) (r .cursor .address) c a) j
+        → dotOf (bitsPerDot r) (invertedByte (cursorRow start (if three then 0 else if text then (if on then (if shape then firstBits crx else 0) else 0) else 0)) (r .cursor .address) c a) j
         ≡ inverted (not three && text && on && shape && code % 65536 =? r .cursor .address) crx j (dotOf (bitsPerDot r) a j)
     go true text on shape g = off
     go false false on shape g = off
@@ -255,14 +255,14 @@ cursor-dots r frame (Block block q) c a j h low =
 -- Columns and rows
 
 column-dot : (r : Registers) (memory font : List ℕ) (frame n c j : ℕ) → Composable r → Place (r .gray) j
-    → dotOf (bitsPerDot r) (columnByte (columnSetup r) (litSource r (layer1 r n) frame) (litSource r (layer2 r n) frame) (litSource r (layer3 r n) frame) (cursorRowOf r (layer1 r n) frame) memory font c) j
+    → dotOf (bitsPerDot r) (columnByte (columnSetup r) (layerSource r (layer1 r n) frame) (layerSource r (layer2 r n) frame) (layerSource r (layer3 r n) frame) (cursorRowOf r (layer1 r n) frame) memory font c) j
     ≡ columnDot r memory font frame n c j
 unfolding columnByte columnDot
 column-dot r memory font frame n c j h p =
     mix-dots (r .overlay .mx) (r .gray) _ _ _ j p
     ∙ rw (cursor-dots r frame (layer1 r n) c _ j h (p .one), source-layer r memory font frame (layer1 r n) c, source-layer r memory font frame (layer2 r n) c, source-layer r memory font frame (layer3 r n) c)
 
-in-column : (r : Registers) → Composable r → (x : ℕ) → Place (r .gray) (x % dotsPerColumn r)
+in-column : (r : Registers) → Composable r → (x : ℕ) → Place (r .gray) (x % perColumn r)
 unfolding dotsPerColumn
 in-column r h x =
     record {
@@ -274,12 +274,12 @@ in-column r h x =
 
 -- the row that the code's columns make is the row of the definition
 pub row-dots : (r : Registers) (memory font : List ℕ) (frame n : ℕ) → Composable r
-    → table (width r) (columnsDot (columnSetup r) (litSource r (layer1 r n) frame) (litSource r (layer2 r n) frame) (litSource r (layer3 r n) frame) (cursorRowOf r (layer1 r n) frame) memory font (dotsPerColumn r))
+    → table (width r) (columnsDot (columnSetup r) (layerSource r (layer1 r n) frame) (layerSource r (layer2 r n) frame) (layerSource r (layer3 r n) frame) (cursorRowOf r (layer1 r n) frame) memory font (perColumn r))
     ≡ table (width r) (shownDot r memory font frame n)
 unfolding columnsDot shownDot
-row-dots r memory font frame n h = same-table (width r) _ _ (λ x l. column-dot r memory font frame n (x / dotsPerColumn r) (x % dotsPerColumn r) h (in-column r h x))
+row-dots r memory font frame n h = same-table (width r) _ _ (λ x l. column-dot r memory font frame n (x / perColumn r) (x % perColumn r) h (in-column r h x))
 
-pub columns-room : (r : Registers) → Composable r → (0 < dotsPerColumn r) × Room (r .gray) (dotsPerColumn r)
+pub columns-room : (r : Registers) → Composable r → (0 < perColumn r) × Room (r .gray) (perColumn r)
 unfolding dotsPerColumn
 columns-room r h = (
   go (r .gray) (h .code),
@@ -303,7 +303,7 @@ row-when : (r : Registers) (memory font : List ℕ) (frame n : ℕ) {t : Bool} �
     → table (width r) (λ x. if t then shownDot r memory font frame n x else 0) ≡ dots r memory font frame n
 unfolding dots dot shownDot
 row-when r memory font frame n e =
-    same-table (width r) _ _ (λ x l. sym (ap (λ (b : Bool). if b then columnDot r memory font frame n (x / dotsPerColumn r) (x % dotsPerColumn r) else 0) e))
+    same-table (width r) _ _ (λ x l. sym (ap (λ (b : Bool). if b then columnDot r memory font frame n (x / perColumn r) (x % perColumn r) else 0) e))
 
 pub row-shown : (r : Registers) (memory font : List ℕ) (frame n : ℕ) → r .display .on ≡ true → r .asleep ≡ false
     → table (width r) (shownDot r memory font frame n) ≡ dots r memory font frame n

@@ -5,6 +5,8 @@ use mathlib.Core.List.{List, [], _∷_}
 use mathlib.Core.Path.{_≡_}
 use lib.Bits.{bitAnd, bitOr, bitXor}
 use lib.ListN.{getD}
+use Rattle.registers.specs.declared.Code.{Code}
+use Rattle.registers.specs.declared.CursorForm.{CursorForm}
 use Rattle.registers.specs.declared.Registers.{Registers}
 use Rattle.registers.specs.Choice.{if_then_else_, _<?_, _=?_}
 use Rattle.registers.specs.Counts.{⁅_⁆}
@@ -13,30 +15,32 @@ use Rattle.row.specs.declared.LayerRow.the-variants.{Nothing, Block}
 use Rattle.row.specs.declared.Source.{Source}
 use Rattle.row.specs.declared.Source.the-variants.{Blank, Graphics, Text}
 use Rattle.row.specs.declared.CursorRow.{CursorRow}
+use Rattle.row.specs.declared.RowChecks.{RowChecks}
 use Rattle.row.specs.declared.ColumnSetup.{ColumnSetup}
 use Rattle.row.specs.Layers.{isText, sad, threeLayers}
 use Rattle.row.specs.Glyphs.{fetch, glyphByte}
 use Rattle.row.specs.Flashing.{isLit, cursorOn}
 use Rattle.row.specs.Cursor.{inShape}
 use Rattle.row.specs.Mixing.{firstOf}
-use Rattle.row.specs.Dots.{dotOf, dotsPerColumn, columnDot}
+use Rattle.row.specs.Dots.{dotOf, perColumn, columnDot}
 
 -- the address of row q of a block, or of its text line q
 abbrev pub lineAddress : ℕ → ℕ → ℕ → ℕ
 lineAddress start pitch q = (start + q * pitch) % 65536
 
--- what a layer fetches, lit or not
-unfoldable pub sourceOf : Registers → LayerRow → Source
-sourceOf r Nothing = Blank
-sourceOf r (Block block q) =
-    if isText (r .overlay) block
-    then Text (lineAddress (sad (r .blocks) block) (r .system .ap) (q / ⁅ r .system .fy ⁆)) (q % ⁅ r .system .fy ⁆)
-    else Graphics (lineAddress (sad (r .blocks) block) (r .system .ap) q)
+-- what row q of a block fetches, lit or not
+unfoldable pub blockSource : Bool → ℕ → ℕ → Code → ℕ → Source
+blockSource text start pitch fy q =
+    if text then Text (lineAddress start pitch (q / ⁅ fy ⁆)) (q % ⁅ fy ⁆)
+    else Graphics (lineAddress start pitch q)
 
 -- a dark block fetches nothing
-unfoldable pub litSource : Registers → LayerRow → ℕ → Source
-litSource r Nothing frame = Blank
-litSource r (Block block q) frame = if isLit (r .display .fp) block frame then sourceOf r (Block block q) else Blank
+unfoldable pub layerSource : Registers → LayerRow → ℕ → Source
+layerSource r Nothing frame = Blank
+layerSource r (Block block q) frame =
+    if isLit (r .display .fp) block frame
+    then blockSource (isText (r .overlay) block) (sad (r .blocks) block) (r .system .ap) (r .system .fy) q
+    else Blank
 
 abbrev pub columnSetup : Registers → ColumnSetup
 columnSetup r =
@@ -54,17 +58,18 @@ firstBits n = if n <? 8 then getD (0 ∷ 128 ∷ 192 ∷ 224 ∷ 240 ∷ 248 ∷
 abbrev pub cursorRow : ℕ → ℕ → CursorRow
 cursorRow start mask = record { start = start; mask = mask }
 
+-- the bits that the cursor inverts
+unfoldable pub cursorMask : Bool → Bool → Bool → CursorForm → ℕ → ℕ
+cursorMask three text on f row =
+    if three then 0
+    else if text then (if on then (if inShape f row then firstBits ⁅ f .crx ⁆ else 0) else 0)
+    else 0
+
 unfoldable pub cursorRowOf : Registers → LayerRow → ℕ → CursorRow
 cursorRowOf r Nothing frame = cursorRow 0 0
 cursorRowOf r (Block block q) frame =
-    if threeLayers (r .system .ws) (r .overlay) then cursorRow 0 0
-    else if isText (r .overlay) block
-    then (if cursorOn (r .display .fc) frame
-    then (if inShape (r .form) (q % ⁅ r .system .fy ⁆)
-    then cursorRow (lineAddress (sad (r .blocks) block) (r .system .ap) (q / ⁅ r .system .fy ⁆)) (firstBits ⁅ r .form .crx ⁆)
-    else cursorRow 0 0)
-    else cursorRow 0 0)
-    else cursorRow 0 0
+    cursorRow (lineAddress (sad (r .blocks) block) (r .system .ap) (q / ⁅ r .system .fy ⁆))
+    (cursorMask (threeLayers (r .system .ws) (r .overlay)) (isText (r .overlay) block) (cursorOn (r .display .fc) frame) (r .form) (q % ⁅ r .system .fy ⁆))
 
 -- the byte of layer 1 with the cursor's bits inverted
 unfoldable pub invertedByte : CursorRow → ℕ → ℕ → ℕ → ℕ
@@ -100,7 +105,23 @@ columnsDot k one two three cursor memory font perColumn x =
 
 -- dot x of row n with the display on
 unfoldable pub shownDot : Registers → List ℕ → List ℕ → ℕ → ℕ → ℕ → ℕ
-shownDot r memory font frame n x = columnDot r memory font frame n (x / dotsPerColumn r) (x % dotsPerColumn r)
+shownDot r memory font frame n x = columnDot r memory font frame n (x / perColumn r) (x % perColumn r)
+
+-- the first refusal of a row that applies
+unfoldable pub firstRefusal : RowChecks → ℕ
+firstRefusal k =
+    if k .«memory_size» then 1
+    else if k .«font_size» then 8
+    else if k .«gray_mode» then 9
+    else if k .«character_width» then 10
+    else if k .«row_width» then 11
+    else if k .«odd_lines» then 12
+    else if k .«short_line» then 13
+    else if k .«layer_order» then 14
+    else if k .«cursor_shape» then 15
+    else if k .«row_number» then 16
+    else if k .«buffer_size» then 17
+    else 0
 
 -- n dots are what a byte gives at a grey code
 pub record Room (gray n : ℕ) : Type 0 where

@@ -2,6 +2,7 @@
 use Prim.Native.Nat.{ℕ, zero, suc, _+_, _-_, _*_, _/_, _%_, _^_}
 use mathlib.Core.Bool.{Bool, not, _&&_}
 use mathlib.Core.List.{List, [], _∷_}
+use Rattle.registers.specs.declared.Code.{Code}
 use Rattle.registers.specs.declared.Registers.{Registers}
 use Rattle.registers.specs.Choice.{if_then_else_, _=?_}
 use Rattle.registers.specs.Counts.{⁅_⁆}
@@ -18,12 +19,15 @@ abbrev pub bitsPerDot : Registers → ℕ
 bitsPerDot r = 2 ^ r .gray
 
 -- the dots of a column: [FX], in grey 8 / bits a dot
-unfoldable pub dotsPerColumn : Registers → ℕ
-dotsPerColumn r = if r .gray =? 0 then ⁅ r .system .fx ⁆ else 8 / bitsPerDot r
+unfoldable pub dotsPerColumn : ℕ → Code → ℕ
+dotsPerColumn gray fx = if gray =? 0 then ⁅ fx ⁆ else 8 / 2 ^ gray
+
+abbrev pub perColumn : Registers → ℕ
+perColumn r = dotsPerColumn (r .gray) (r .system .fx)
 
 -- Width: [C/R] x [FX] dots, in grey [C/R] x 8 / bits a dot
 unfoldable pub width : Registers → ℕ
-width r = ⁅ r .system .cr ⁆ * dotsPerColumn r
+width r = ⁅ r .system .cr ⁆ * perColumn r
 
 -- a byte gives its top bits, bit 7 leftmost; in grey its 2- or 4-bit groups, top group leftmost
 unfoldable pub dotOf : ℕ → ℕ → ℕ → ℕ
@@ -46,7 +50,7 @@ columnDot r memory font frame n c j =
 -- dot x of row n: with D = 0 or asleep, 0
 unfoldable pub dot : Registers → List ℕ → List ℕ → ℕ → ℕ → ℕ → ℕ
 dot r memory font frame n x =
-    if r .display .on && not (r .asleep) then columnDot r memory font frame n (x / dotsPerColumn r) (x % dotsPerColumn r)
+    if r .display .on && not (r .asleep) then columnDot r memory font frame n (x / perColumn r) (x % perColumn r)
     else 0
 
 -- f 0, f 1, .., f (n - 1)

@@ -47,3 +47,18 @@ pub struct ColumnSetup {
     pub gray: u8,
     pub cursor: u16,
 }
+
+// Which refusals of a row apply.
+pub struct RowChecks {
+    pub memory_size: bool,
+    pub font_size: bool,
+    pub gray_mode: bool,
+    pub character_width: bool,
+    pub row_width: bool,
+    pub odd_lines: bool,
+    pub short_line: bool,
+    pub layer_order: bool,
+    pub cursor_shape: bool,
+    pub row_number: bool,
+    pub buffer_size: bool,
+}

@@ -1,45 +1,48 @@
 // Which rows are refused.
+use crate::RowChecks;
 use crate::layers::three_layers;
 use registers::Answer;
+use registers::Blocks;
+use registers::Code;
+use registers::CursorForm;
 use registers::FONT_SIZE;
 use registers::MEMORY_SIZE;
+use registers::Overlay;
 use registers::Refusal;
 use registers::Registers;
-ghost use Prim.Native.Nat.{_<_};
+ghost use Prim.Native.Nat.{_*_, _<_};
 ghost use mathlib.Core.Path.{_≡_};
 ghost use Rattle.registers.specs.Refusals.{reply};
-ghost use Rattle.row.specs.Dots.{dotsPerColumn, width};
+ghost use Rattle.registers.specs.Counts.{⁅_⁆};
+ghost use Rattle.row.specs.Columns.{firstRefusal};
+ghost use Rattle.row.specs.Dots.{dotsPerColumn};
 ghost use Rattle.row.specs.Refusals.{grayUnfit, linesOdd, orderUnfit, cursorUnfit, rowRefusal};
 
-pub fn dots_per_column(r: Registers) -> u16
-    requires { ⌜ r .gray < 3 ⌝ }
-    ensures { λ d. ⌜ d ≡ dotsPerColumn r ⌝ }
+pub fn dots_per_column(gray: u8, fx: Code) -> u16
+    requires { ⌜ gray < 3 ⌝ }
+    ensures { λ d. ⌜ d ≡ dotsPerColumn gray fx ⌝ }
 {
-    if r.gray == 0 {
-        let fx = r.system.fx;
+    if gray == 0 {
         return fx.count().0;
     }
-    if r.gray == 1 {
+    if gray == 1 {
         return 4;
     }
     2
 }
 
-fn width(r: Registers) -> usize
-    requires { ⌜ r .gray < 3 ⌝ }
-    ensures { λ w. ⌜ w ≡ width r ⌝ }
+// The dots of all columns.
+fn columns_width(cr: Code, per: u16) -> usize
+    ensures { λ w. ⌜ w ≡ ⁅ cr ⁆ * per ⌝ }
 {
-    let cr = r.system.cr;
     let columns = cr.count();
-    columns.0 as usize * dots_per_column(r) as usize
+    columns.0 as usize * per as usize
 }
 
-fn gray_unfit(r: Registers) -> bool
-    ensures { λ b. ⌜ b ≡ grayUnfit r ⌝ }
+fn gray_unfit(gray: u8, o: Overlay, fx: Code) -> bool
+    ensures { λ b. ⌜ b ≡ grayUnfit gray o fx ⌝ }
 {
-    let o = r.overlay;
-    let fx = r.system.fx;
-    if r.gray == 0 {
+    if gray == 0 {
         return false;
     }
     if o.dm2 {
@@ -50,26 +53,22 @@ fn gray_unfit(r: Registers) -> bool
     true
 }
 
-fn lines_odd(r: Registers) -> bool
-    ensures { λ b. ⌜ b ≡ linesOdd r ⌝ }
+fn lines_odd(ws: bool, lf: Code) -> bool
+    ensures { λ b. ⌜ b ≡ linesOdd ws lf ⌝ }
 {
-    let s = r.system;
-    if s.ws {
-        return s.lf.count().0 % 2 == 1;
+    if ws {
+        return lf.count().0 % 2 == 1;
     }
     false
 }
 
-fn order_unfit(r: Registers) -> bool
-    ensures { λ b. ⌜ b ≡ orderUnfit r ⌝ }
+fn order_unfit(ws: bool, o: Overlay, b: Blocks) -> bool
+    ensures { λ r. ⌜ r ≡ orderUnfit ws o b ⌝ }
 {
-    let s = r.system;
-    let b = r.blocks;
-    let o = r.overlay;
-    if s.ws {
+    if ws {
         return false;
     }
-    if three_layers(s.ws, o) {
+    if three_layers(ws, o) {
         return false;
     }
     if b.sl2.0 < b.sl1.0 {
@@ -81,12 +80,10 @@ fn order_unfit(r: Registers) -> bool
     false
 }
 
-fn cursor_unfit(r: Registers) -> bool
-    ensures { λ b. ⌜ b ≡ cursorUnfit r ⌝ }
+fn cursor_unfit(fc: u8, f: CursorForm, fx: Code) -> bool
+    ensures { λ b. ⌜ b ≡ cursorUnfit fc f fx ⌝ }
 {
-    let f = r.form;
-    let fx = r.system.fx;
-    if r.display.fc == 0 {
+    if fc == 0 {
         return false;
     }
     if f.cry.0 == 0 {
@@ -95,45 +92,68 @@ fn cursor_unfit(r: Registers) -> bool
     fx.count().0 < f.crx.count().0
 }
 
-// The answer to row n, by the lengths of memory, font and buffer.
+impl RowChecks {
+    // The first that applies is the answer.
+    fn answer(self) -> Answer
+        ensures { λ a. ⌜ reply a .refusal ≡ firstRefusal self ⌝ }
+    {
+        if self.memory_size {
+            return Answer::Refused(Refusal::MemorySize);
+        }
+        if self.font_size {
+            return Answer::Refused(Refusal::FontSize);
+        }
+        if self.gray_mode {
+            return Answer::Refused(Refusal::GrayMode);
+        }
+        if self.character_width {
+            return Answer::Refused(Refusal::CharacterWidth);
+        }
+        if self.row_width {
+            return Answer::Refused(Refusal::RowWidth);
+        }
+        if self.odd_lines {
+            return Answer::Refused(Refusal::OddLines);
+        }
+        if self.short_line {
+            return Answer::Refused(Refusal::ShortLine);
+        }
+        if self.layer_order {
+            return Answer::Refused(Refusal::LayerOrder);
+        }
+        if self.cursor_shape {
+            return Answer::Refused(Refusal::CursorShape);
+        }
+        if self.row_number {
+            return Answer::Refused(Refusal::RowNumber);
+        }
+        if self.buffer_size {
+            return Answer::Refused(Refusal::BufferSize);
+        }
+        Answer::Accepted
+    }
+}
+
+// The answer to row n, by the lengths of memory, font and buffer. An accepted row number fits 16 bits.
 pub fn row_answer(r: Registers, memory: usize, font: usize, n: u32, buffer: usize) -> Answer
     requires { ⌜ r .gray < 3 ⌝ }
     ensures { λ a. ⌜ reply a .refusal ≡ rowRefusal r memory font n buffer ⌝ }
     ensures { λ a. ⌜ (reply a .refusal ≡ 0 → n < 65536) ⌝ }
 {
     let s = r.system;
-    if memory != MEMORY_SIZE {
-        return Answer::Refused(Refusal::MemorySize);
-    }
-    if font != FONT_SIZE {
-        return Answer::Refused(Refusal::FontSize);
-    }
-    if gray_unfit(r) {
-        return Answer::Refused(Refusal::GrayMode);
-    }
-    if 8 < s.fx.count().0 {
-        return Answer::Refused(Refusal::CharacterWidth);
-    }
-    if 640 < width(r) {
-        return Answer::Refused(Refusal::RowWidth);
-    }
-    if lines_odd(r) {
-        return Answer::Refused(Refusal::OddLines);
-    }
-    if (s.tcr.0 as u16) < s.cr.0 as u16 + 4 {
-        return Answer::Refused(Refusal::ShortLine);
-    }
-    if order_unfit(r) {
-        return Answer::Refused(Refusal::LayerOrder);
-    }
-    if cursor_unfit(r) {
-        return Answer::Refused(Refusal::CursorShape);
-    }
-    if s.lf.count().0 as u32 <= n {
-        return Answer::Refused(Refusal::RowNumber);
-    }
-    if buffer != width(r) {
-        return Answer::Refused(Refusal::BufferSize);
-    }
-    Answer::Accepted
+    let width = columns_width(s.cr, dots_per_column(r.gray, s.fx));
+    let checks = RowChecks {
+        memory_size: memory != MEMORY_SIZE,
+        font_size: font != FONT_SIZE,
+        gray_mode: gray_unfit(r.gray, r.overlay, s.fx),
+        character_width: 8 < s.fx.count().0,
+        row_width: 640 < width,
+        odd_lines: lines_odd(s.ws, s.lf),
+        short_line: (s.tcr.0 as u16) < s.cr.0 as u16 + 4,
+        layer_order: order_unfit(s.ws, r.overlay, r.blocks),
+        cursor_shape: cursor_unfit(r.display.fc, r.form, s.fx),
+        row_number: s.lf.count().0 as u32 <= n,
+        buffer_size: buffer != width,
+    };
+    checks.answer()
 }

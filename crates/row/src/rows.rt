@@ -7,7 +7,7 @@ use crate::layers::layer2;
 use crate::layers::layer3;
 use crate::refusals::dots_per_column;
 use crate::refusals::row_answer;
-use crate::sources::lit_source;
+use crate::sources::layer_source;
 use registers::Answer;
 use registers::Registers;
 ghost use mathlib.Core.Path.{_≡_};
@@ -43,12 +43,12 @@ fn paint(r: Registers, memory: &[u8], font: &[u8], frame: u32, n: u16, out: &mut
         cursor: r.cursor.address,
     };
     let count = system.cr.count();
-    let per = dots_per_column(r) as usize;
+    let per = dots_per_column(r.gray, system.fx) as usize;
     let layer = layer1(r, n);
-    let one = lit_source(r, layer, frame);
+    let one = layer_source(r, layer, frame);
     let cursor = cursor_row(r, layer, frame);
-    let two = lit_source(r, layer2(r, n), frame);
-    let three = lit_source(r, layer3(r, n), frame);
+    let two = layer_source(r, layer2(r, n), frame);
+    let three = layer_source(r, layer3(r, n), frame);
     columns(
         setup,
         one,

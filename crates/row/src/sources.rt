@@ -7,10 +7,11 @@ use crate::glyphs::fetch;
 use crate::glyphs::glyph_byte;
 use crate::layers::is_text;
 use crate::layers::sad;
+use registers::Code;
 use registers::Registers;
 ghost use Prim.Native.Nat.{_+_, _*_, _%_};
 ghost use mathlib.Core.Path.{_≡_};
-ghost use Rattle.row.specs.Columns.{lineAddress, sourceOf, litSource, sourceByte};
+ghost use Rattle.row.specs.Columns.{lineAddress, blockSource, layerSource, sourceByte};
 
 // The address of row q of a block, or of its text line q.
 pub fn line_address(start: u16, pitch: u16, q: u16) -> u16
@@ -20,32 +21,33 @@ pub fn line_address(start: u16, pitch: u16, q: u16) -> u16
     std::num::wrapping_add_u16(start, down)
 }
 
-pub fn source_of(r: Registers, layer: LayerRow) -> Source
-    ensures { λ s. ⌜ s ≡ sourceOf r layer ⌝ }
+// The source of row q of a block, text or graphics.
+fn block_source(text: bool, start: u16, pitch: u16, fy: Code, q: u16) -> Source
+    ensures { λ s. ⌜ s ≡ blockSource text start pitch fy q ⌝ }
+{
+    if text {
+        let height = fy.count();
+        return Source::Text(line_address(start, pitch, q / height.0), q % height.0);
+    }
+    Source::Graphics(line_address(start, pitch, q))
+}
+
+// The source of a layer, blank where FP darkens its block.
+pub fn layer_source(r: Registers, layer: LayerRow, frame: u32) -> Source
+    ensures { λ s. ⌜ s ≡ layerSource r layer frame ⌝ }
 {
     let system = r.system;
     match layer {
         LayerRow::Nothing => Source::Blank,
         LayerRow::Block(block, q) => {
-            let start = sad(r.blocks, block);
-            if is_text(r.overlay, block) {
-                let height = system.fy.count();
-                return Source::Text(line_address(start, system.ap, q / height.0), q % height.0);
-            }
-            Source::Graphics(line_address(start, system.ap, q))
-        }
-    }
-}
-
-// The source of a layer, blank where FP darkens its block.
-pub fn lit_source(r: Registers, layer: LayerRow, frame: u32) -> Source
-    ensures { λ s. ⌜ s ≡ litSource r layer frame ⌝ }
-{
-    match layer {
-        LayerRow::Nothing => Source::Blank,
-        LayerRow::Block(block, _) => {
             if is_lit(r.display.fp, block, frame) {
-                return source_of(r, layer);
+                return block_source(
+                    is_text(r.overlay, block),
+                    sad(r.blocks, block),
+                    system.ap,
+                    system.fy,
+                    q,
+                );
             }
             Source::Blank
         }

@@ -22,4 +22,4 @@ paint-spec =
     (λ c κs. search needs)
     (λ c κs. rw (c .before .before .before .before .before .before .before .before .before .count .ensures, c .before .before .before .before .before .before .before .before .dots-per-column .ensures) (let p = c .before .before .before .before .before .before .before .before .before .before .before .before .before .before .pre in let k = columns-room (c .before .before .before .before .before .before .before .before .before .before .before .before .before .before .args .r) (p .1) in (p .0, k .0, k .1)))
     (λ c. search needs)
-    (λ c. c .before .before .columns .ensures ∙ rw (c .before .before .before .before .before .before .before .before .before .before .before .before .count .ensures, c .before .before .before .before .before .before .before .before .before .before .before .dots-per-column .ensures, c .before .before .before .before .before .before .before .before .before .lit-source .ensures, c .before .before .before .before .before .before .lit-source2 .ensures, c .before .before .before .before .lit-source3 .ensures, c .before .before .before .before .before .before .before .before .cursor-row .ensures, c .before .before .before .before .before .before .before .before .before .before .layer1 .ensures, c .before .before .before .before .before .before .before .layer2 .ensures, c .before .before .before .before .before .layer3 .ensures) (row-dots _ _ _ _ _ (c .before .before .before .before .before .before .before .before .before .before .before .before .before .before .before .before .before .pre .1))))
+    (λ c. c .before .before .columns .ensures ∙ rw (c .before .before .before .before .before .before .before .before .before .before .before .before .count .ensures, c .before .before .before .before .before .before .before .before .before .before .before .dots-per-column .ensures, c .before .before .before .before .before .before .before .before .before .layer-source .ensures, c .before .before .before .before .before .before .layer-source2 .ensures, c .before .before .before .before .layer-source3 .ensures, c .before .before .before .before .before .before .before .before .cursor-row .ensures, c .before .before .before .before .before .before .before .before .before .before .layer1 .ensures, c .before .before .before .before .before .before .before .layer2 .ensures, c .before .before .before .before .before .layer3 .ensures) (row-dots _ _ _ _ _ (c .before .before .before .before .before .before .before .before .before .before .before .before .before .before .before .before .before .pre .1))))

@@ -9,8 +9,14 @@ use borrow.Author.Tests.{eq-eqb}
 use Rattle.registers.specs.declared.Command.the-variants.{Mwrite}
 use Rattle.registers.specs.Choice.{if_then_else_, _<?_}
 use Rattle.registers.specs.Commands.{commandOf, _is_, parameters}
-use Rattle.registers.specs.Parameters.{begin, store, storeSystem, storeBlocks, storeForm, directionOf, withLow, withHigh, allowed, systemAllows, formAllows}
+use Rattle.registers.specs.Parameters.{begin, store, storeSystem, storeDisplay, storeBlocks, storeForm, storeOverlay, directionOf, withLow, withHigh, allowed, systemAllows, formAllows}
 use Rattle.registers.specs.Cursor.{nextAddress}
+use Rattle.registers.specs.Layout.{field, inLayout}
+use Rattle.row.specs.Layers.{threeLayers}
+use Rattle.row.specs.Glyphs.{glyphOf}
+use Rattle.row.specs.Flashing.{isOn, flashing, isLit}
+use Rattle.row.specs.Dots.{dotsPerColumn, width}
+use Rattle.row.specs.Refusals.{grayUnfit, linesOdd, orderUnfit, cursorUnfit, rowRefusal}
 use Rattle.model.specs.Machine.{Machine, Outcome, accept, refuse}
 use Rattle.model.specs.Bus.{ignored, commandWrite, served, accessed, dataWrite, dataRead, writeParameter, writeMemory}
 use Rattle.model.specs.Calls.{BusCall, command, write, read, call, after, reset}
@@ -48,9 +54,9 @@ after-sized m full (c ∷ cs) =
 module _ (memory : List ℕ) (full : length memory ≡ 32768) where
   -- an edge holds where the calls that compute give what is said
   abbrev Computes : Edge → Type 0
-  Computes e = seen (e .look) (sizedCall (sizedAfter (reset memory) (e .before)) (e .last)) ≡ e .said
+  Computes e = seen (e .look) (sizedCall (sizedAfter (reset memory) (e .before)) (e .last)) ≡ e .expected
 
-  hold : (es : List Edge) → All Computes es → All (λ e. seen (e .look) (call (after (reset memory) (e .before)) (e .last)) ≡ e .said) es
+  hold : (es : List Edge) → All Computes es → All (λ e. seen (e .look) (call (after (reset memory) (e .before)) (e .last)) ≡ e .expected) es
   hold [] h = tt
   hold (e ∷ es) h = (
     ap (seen (e .look)) (call-sized (after (reset memory) (e .before)) (after-size (reset memory) (e .before) ∙ full) (e .last)
@@ -60,8 +66,91 @@ module _ (memory : List ℕ) (full : length memory ≡ 32768) where
   )
 
 pub edges-hold : EdgesHold
-unfolding commandOf begin store storeSystem storeBlocks storeForm directionOf withLow withHigh allowed systemAllows formAllows nextAddress ignored commandWrite served writeParameter
+unfolding commandOf begin store storeSystem storeDisplay storeBlocks storeForm storeOverlay directionOf withLow withHigh allowed systemAllows formAllows nextAddress ignored commandWrite served writeParameter inLayout field rowRefusal grayUnfit linesOdd orderUnfit cursorUnfit threeLayers width dotsPerColumn isLit flashing isOn glyphOf
 edges-hold memory full =
     let stored = getD-set-same memory 0x7FFF 0xA5 0 (omega arith) in
-    hold memory full edges
-    (refl, (refl, (refl, (refl, (refl, (refl, (refl, (refl, (refl, (stored, (refl, (refl, (stored, (refl, (refl, (refl, (refl, tt)))))))))))))))))
+    hold memory full edges (
+      refl,
+      (
+        refl,
+        (
+          refl,
+          (
+            refl,
+            (
+              refl,
+              (
+                refl,
+                (
+                  refl,
+                  (
+                    refl,
+                    (
+                      refl,
+                      (
+                        stored,
+                        (
+                          refl,
+                          (
+                            refl,
+                            (
+                              stored,
+                              (
+                                refl,
+                                (
+                                  refl,
+                                  (
+                                    refl,
+                                    (
+                                      rw full,
+                                      (
+                                        rw full,
+                                        (
+                                          refl,
+                                          (
+                                            refl,
+                                            (
+                                              refl,
+                                              (
+                                                refl,
+                                                (
+                                                  refl,
+                                                  (
+                                                    refl,
+                                                    (
+                                                      refl,
+                                                      (
+                                                        rw full,
+                                                        (
+                                                          rw full,
+                                                          (
+                                                            rw full,
+                                                            (refl, tt),
+                                                          ),
+                                                        ),
+                                                      ),
+                                                    ),
+                                                  ),
+                                                ),
+                                              ),
+                                            ),
+                                          ),
+                                        ),
+                                      ),
+                                    ),
+                                  ),
+                                ),
+                              ),
+                            ),
+                          ),
+                        ),
+                      ),
+                    ),
+                  ),
+                ),
+              ),
+            ),
+          ),
+        ),
+      ),
+    )

@@ -25,7 +25,7 @@ use Rattle.model.specs.declared.Controller.{Controller}
 use Rattle.model.specs.Machine.{Machine, Outcome, machine, controller}
 use Rattle.model.specs.Bus.{ignored, commandWrite, served, dataWrite, writeParameter}
 use Rattle.model.specs.Calls.{BusCall, command, write, after, reset}
-use Rattle.model.specs.Refresh.{All, Byte, count, nine, eleven, Refresh, send, sends, without}
+use Rattle.model.specs.Refresh.{All, Byte, occurrences, nine, eleven, Refresh, send, sends, without}
 use Rattle.model.specs.Demand.{OnBus, Accepted, Only7, Prior, reached, rest, Differ, EachNeeded}
 use Rattle.model.proofs.Runs.{Runs, runs-none, runs-cons, runs-append, runs-weaker}
 use Rattle.model.proofs.Steps.{at, next, writing, travel, spilled}
@@ -263,6 +263,6 @@ needed-mwrite r =
 pub needed : EachNeeded
 needed r = all-counted (Differ r) (eleven nine) (λ c h. go c (c is Mwrite) refl h)
   where
-    go : (c : Command) (t : Bool) → (c is Mwrite) ≡ t → 0 < count c (eleven nine) → Differ r c
+    go : (c : Command) (t : Bool) → (c is Mwrite) ≡ t → 0 < occurrences c (eleven nine) → Differ r c
     go c true e h = subst (Differ r) (sym (is-same c Mwrite e)) (needed-mwrite r)
     go c false e h = needed-ten r c (rw e at h) e

@@ -10,12 +10,12 @@ use Rattle.registers.specs.Commands.{commandOf, _is_, parameters}
 use Rattle.registers.specs.Parameters.{allowed}
 use Rattle.model.specs.Machine.{Machine, Outcome}
 use Rattle.model.specs.Bus.{ignored, served, sized, inside, commandWrite, writeMemory, writeParameter, dataWrite, readMemory, cursorReads, readCursor, dataRead}
-use Rattle.model.specs.Calls.{BusCall, command, write, read, call, after, trace}
+use Rattle.model.specs.Calls.{BusCall, command, write, read, call, after, outcomes}
 use Rattle.model.specs.Refresh.{All}
 
 pub record Runs (P : Outcome → Type 0) (m : Machine) (cs : List BusCall) (m′ : Machine) : Type 0 where
   pub leads : after m cs ≡ m′
-  pub answered : All P (trace m cs)
+  pub answered : All P (outcomes m cs)
 
 module _ {P : Outcome → Type 0} where
   pub runs-none : {m : Machine} → Runs P m [] m
@@ -23,7 +23,7 @@ module _ {P : Outcome → Type 0} where
 
   pub runs-cons : {m : Machine} {c : BusCall} {cs : List BusCall} {o : Outcome} {m′ : Machine} → call m c ≡ o → P o → Runs P (o .machine) cs m′ → Runs P m (c ∷ cs) m′
   runs-cons {cs = cs} {m′ = m′} e p k =
-      let t = subst (λ (o : Outcome). (after (o .machine) cs ≡ m′) × (P o × All P (trace (o .machine) cs))) (sym e) (k .leads, (p, k .answered)) in
+      let t = subst (λ (o : Outcome). (after (o .machine) cs ≡ m′) × (P o × All P (outcomes (o .machine) cs))) (sym e) (k .leads, (p, k .answered)) in
       record { leads = t .0; answered = t .1 }
 
   pub runs-append : {m : Machine} (xs : List BusCall) {ys : List BusCall} {m′ m″ : Machine} → Runs P m xs m′ → Runs P m′ ys m″ → Runs P m (xs ++ ys) m″
@@ -40,7 +40,7 @@ all-weaker f [] h = tt
 all-weaker f (o ∷ os) h = (f o (h .0), all-weaker f os (h .1))
 
 pub runs-weaker : {P Q : Outcome → Type 0} → ((o : Outcome) → P o → Q o) → {m m′ : Machine} {cs : List BusCall} → Runs P m cs m′ → Runs Q m cs m′
-runs-weaker f {m} {cs = cs} h = record { leads = h .leads; answered = all-weaker f (trace m cs) (h .answered) }
+runs-weaker f {m} {cs = cs} h = record { leads = h .leads; answered = all-weaker f (outcomes m cs) (h .answered) }
 
 -- whichever case a test picks
 pub either : (P : Outcome → Type 0) (test : Bool) {x y : Outcome} → P x → P y → P (if test then x else y)

@@ -7,7 +7,7 @@ use native.Mathlib.Omega.{arith}
 use borrow.Author.Tests.{eq-eqb}
 use Rattle.registers.specs.declared.Command.{Command}
 use Rattle.registers.specs.Commands.{code, _is_}
-use Rattle.model.specs.Refresh.{All, count, without}
+use Rattle.model.specs.Refresh.{All, occurrences, without}
 
 abbrev pub none : Command → Bool
 none c = false
@@ -24,11 +24,11 @@ adds-seen [] seen c h = h
 adds-seen (d ∷ ds) seen c h = adds-seen ds (also d seen) c (rw (h, or-true))
 
 -- what a list has is seen
-pub adds-counted : (ds : List Command) (seen : Command → Bool) (c : Command) → 0 < count c ds → adds ds seen c ≡ true
+pub adds-counted : (ds : List Command) (seen : Command → Bool) (c : Command) → 0 < occurrences c ds → adds ds seen c ≡ true
 adds-counted [] seen c h = absurd (omega arith)
 adds-counted (d ∷ ds) seen c h = go (c is d) refl (adds-counted ds (also d seen) c)
   where
-    go : (t : Bool) → (c is d) ≡ t → (0 < count c ds → adds ds (also d seen) c ≡ true) → adds ds (also d seen) c ≡ true
+    go : (t : Bool) → (c is d) ≡ t → (0 < occurrences c ds → adds ds (also d seen) c ≡ true) → adds ds (also d seen) c ≡ true
     go true e below = adds-seen ds (also d seen) c (rw e)
     go false e below = below (rw e at h)
 
@@ -42,11 +42,11 @@ adds-without c (d ∷ ds) seen = go (c is d) refl (adds-without c ds)
     go false e below = rw e (below (also d seen) ∙ rw e)
 
 -- a property of every command that a list has is one of all its members
-pub all-counted : (P : Command → Type 0) (ds : List Command) → ((c : Command) → 0 < count c ds → P c) → All P ds
+pub all-counted : (P : Command → Type 0) (ds : List Command) → ((c : Command) → 0 < occurrences c ds → P c) → All P ds
 all-counted P [] h = tt
 all-counted P (d ∷ ds) h = (h d (rw (eq-eqb (code d) (code d) refl) (omega arith)), all-counted P ds (λ c k. h c (go c (c is d) refl k)))
   where
-    go : (c : Command) (t : Bool) → (c is d) ≡ t → 0 < count c ds → 0 < count c (d ∷ ds)
+    go : (c : Command) (t : Bool) → (c is d) ≡ t → 0 < occurrences c ds → 0 < occurrences c (d ∷ ds)
     go c true e k = rw e (omega arith)
     go c false e k = rw e k
 

@@ -18,7 +18,7 @@ use Rattle.model.specs.declared.Controller.{Controller}
 use Rattle.model.specs.Machine.{Machine, Outcome, machine, accept, controller}
 use Rattle.model.specs.Bus.{ignored}
 use Rattle.model.specs.Calls.{BusCall, command, call, trace, reset}
-use Rattle.model.specs.Refresh.{All, count, nine, Refresh, opcode, send, sends, sent}
+use Rattle.model.specs.Refresh.{All, occurrences, nine, Refresh, opcode, send, sends, sent}
 use Rattle.model.specs.Demand.{Accepted, reached, RefreshSettles}
 use Rattle.model.proofs.Runs.{Runs, runs-none, runs-cons, runs-append, runs-to, after-size}
 use Rattle.model.proofs.Steps.{Takes, takes-awake, begun, stores, parameters-run, at, writing, filled}
@@ -163,7 +163,7 @@ module _ (r : Refresh) where
   pub order-ten : All Ten (r .order)
   order-ten = all-counted Ten (r .order) (λ c h. go c (c is SystemSet) refl (subst (λ (n : ℕ). 0 < n) (r .once c) h))
     where
-      go : (c : Command) (t : Bool) → (c is SystemSet) ≡ t → 0 < count c nine → Ten c
+      go : (c : Command) (t : Bool) → (c is SystemSet) ≡ t → 0 < occurrences c nine → Ten c
       go c true e h = rw e (omega arith)
       go c false e h = rw e h
 
@@ -199,7 +199,7 @@ module _ (r : Refresh) where
       all-seen : (c : Command) → Ten c → adds (SystemSet ∷ r .order) none c ≡ true
       all-seen c h = adds-counted (SystemSet ∷ r .order) none c (go (c is SystemSet) refl)
         where
-          go : (t : Bool) → (c is SystemSet) ≡ t → 0 < count c (SystemSet ∷ r .order)
+          go : (t : Bool) → (c is SystemSet) ≡ t → 0 < occurrences c (SystemSet ∷ r .order)
           go true e = rw e (omega arith)
           go false e = rw (e, r .once c) (rw e at h)
 

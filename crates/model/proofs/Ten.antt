@@ -4,10 +4,10 @@ use mathlib.Core.List.{_∷_}
 use native.Mathlib.Omega.{arith}
 use Rattle.registers.specs.declared.Command.{Command}
 use Rattle.registers.specs.declared.Command.the-variants.{None, SystemSet, SleepIn, Disp, Scroll, CsrForm, CsrDir, Ovlay, CgramAdr, HdotScr, GrayScale, Csrw, Csrr, Mwrite, Mread}
-use Rattle.model.specs.Refresh.{count, nine}
+use Rattle.model.specs.Refresh.{occurrences, nine}
 
 abbrev pub Ten : Command → Type 0
-Ten c = 0 < count c (SystemSet ∷ nine)
+Ten c = 0 < occurrences c (SystemSet ∷ nine)
 
 -- a proof for each of them
 pub record Each (P : Command → Type 0) : Type 0 where

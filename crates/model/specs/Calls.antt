@@ -1,6 +1,8 @@
 -- 01, 'The full refresh': lists of calls. Each call gets the controller and the memory that the one before it left.
 use Prim.Native.Nat.{ℕ}
 use mathlib.Core.List.{List, [], _∷_, map}
+use Rattle.registers.specs.Refusals.{Reply}
+use Rattle.row.specs.Rows.{RowAnswer, rowAnswer}
 use Rattle.model.specs.Machine.{Machine, Outcome, machine, resetController}
 use Rattle.model.specs.Bus.{commandWrite, dataWrite, dataRead}
 
@@ -23,11 +25,46 @@ abbrev pub after : Machine → List BusCall → Machine
 after m [] = m
 after m (c ∷ cs) = after (call m c .machine) cs
 
--- after each call of a list: registers, cursor and memory, and what was answered
-abbrev pub trace : Machine → List BusCall → List Outcome
-trace m [] = []
-trace m (c ∷ cs) = call m c ∷ trace (call m c .machine) cs
+-- what each call of a list leaves and answers
+abbrev pub outcomes : Machine → List BusCall → List Outcome
+outcomes m [] = []
+outcomes m (c ∷ cs) = call m c ∷ outcomes (call m c .machine) cs
 
 -- a controller as reset leaves it, beside any memory
 abbrev pub reset : List ℕ → Machine
 reset memory = machine resetController memory
+
+-- Calls with rows among them
+
+-- what a row is asked with, and how long its buffer is
+pub record RowRequest : Type 0 where
+  pub row : ℕ
+  pub font : List ℕ
+  pub frame : ℕ
+  pub buffer : ℕ
+
+pub data Call : Type 0 where
+  bus : BusCall → Call
+  row : RowRequest → Call
+
+pub data Answer : Type 0 where
+  replied : Reply → Answer
+  composed : RowAnswer → Answer
+
+pub record Answered : Type 0 where
+  pub machine : Machine
+  pub answer : Answer
+
+-- a row leaves the machine as it is
+abbrev pub answer : Machine → Call → Answered
+answer m (bus c) = record { machine = call m c .machine; answer = replied (call m c .reply) }
+answer m (row q) =
+    record {
+      machine = m;
+      answer = composed (rowAnswer (m .controller .registers) (m .memory) (q .font) (q .frame) (q .row) (q .buffer));
+    }
+
+-- after each call of a list: registers, cursor and memory, and the answer
+abbrev pub trace : Machine → List Call → List Answered
+trace m [] = []
+trace m (c ∷ cs) = answer m c ∷ trace (answer m c .machine) cs

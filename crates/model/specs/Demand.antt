@@ -1,12 +1,13 @@
--- Demand 3, over the definition of one call: one claim about whole lists.
+-- Demand 3, over the definitions of one call: one claim about whole lists.
 use Prim.Native.Nat.{ℕ}
 use mathlib.Core.List.{List}
 use mathlib.Core.Logic.{_⊎_, _≢_}
 use mathlib.Core.Path.{_≡_}
 use lib.ListN.{length}
 use Rattle.registers.specs.declared.Command.{Command}
+use Rattle.registers.specs.Sizes.{memorySize}
 use Rattle.model.specs.Machine.{Machine, Outcome}
-use Rattle.model.specs.Calls.{BusCall, command, write, read, after, trace, reset}
+use Rattle.model.specs.Calls.{BusCall, command, write, read, after, outcomes, reset, Call, trace}
 use Rattle.model.specs.Refresh.{All, Byte, Refresh, nine, eleven, sends, sent, without}
 
 abbrev pub OnBus : BusCall → Type 0
@@ -18,7 +19,7 @@ OnBus read = Unit {0}
 pub record Prior : Type 0 where
   pub memory : List ℕ
   pub memory-bytes : All Byte memory
-  pub memory-full : length memory ≡ 32768
+  pub memory-full : length memory ≡ memorySize
   pub calls : List BusCall
   pub calls-bytes : All OnBus calls
 
@@ -30,17 +31,17 @@ reached p = after (reset (p .memory)) (p .calls)
 abbrev pub Accepted : Outcome → Type 0
 Accepted o = o .reply .refusal ≡ 0
 
-pub record Settled (m₁ m₂ : Machine) (r : Refresh) (later : List BusCall) : Type 0 where
+pub record Settled (m₁ m₂ : Machine) (r : Refresh) (later : List Call) : Type 0 where
   -- no byte of the refresh gets a refusal
-  pub accepted₁ : All Accepted (trace m₁ (sent r))
-  pub accepted₂ : All Accepted (trace m₂ (sent r))
+  pub accepted₁ : All Accepted (outcomes m₁ (sent r))
+  pub accepted₂ : All Accepted (outcomes m₂ (sent r))
   -- when it ends, registers, cursor and memory are equal
   pub equal : after m₁ (sent r) ≡ after m₂ (sent r)
-  -- and after every later call, with the same answers
+  -- and after every later call, of a row too, with the same answers
   pub equal-later : trace (after m₁ (sent r)) later ≡ trace (after m₂ (sent r)) later
 
 abbrev pub RefreshSettles : Type 0
-RefreshSettles = (p₁ p₂ : Prior) (r : Refresh) (later : List BusCall) → Settled (reached p₁) (reached p₂) r later
+RefreshSettles = (p₁ p₂ : Prior) (r : Refresh) (later : List Call) → Settled (reached p₁) (reached p₂) r later
 
 -- Each of the eleven commands is needed
 
@@ -56,8 +57,8 @@ rest r c = sends r (without c (eleven (r .order)))
 pub record Differ (r : Refresh) (c : Command) : Type 0 where
   pub p₁ : Prior
   pub p₂ : Prior
-  pub only-7₁ : All Only7 (trace (reached p₁) (rest r c))
-  pub only-7₂ : All Only7 (trace (reached p₂) (rest r c))
+  pub only-7₁ : All Only7 (outcomes (reached p₁) (rest r c))
+  pub only-7₂ : All Only7 (outcomes (reached p₂) (rest r c))
   pub differ : after (reached p₁) (rest r c) ≢ after (reached p₂) (rest r c)
 
 abbrev pub EachNeeded : Type 0

@@ -32,11 +32,11 @@ abbrev pub refuse : ℕ → Controller → List ℕ → Outcome
 refuse n c memory = record { machine = machine c memory; reply = refused n }
 
 -- the outcome that the code's answer stands for, with the memory as it leaves it
-abbrev pub written : Written → List ℕ → Outcome
-written w memory = record { machine = machine (w .controller) memory; reply = reply (w .answer) }
+abbrev pub writtenOutcome : Written → List ℕ → Outcome
+writtenOutcome w memory = record { machine = machine (w .controller) memory; reply = reply (w .answer) }
 
-abbrev pub read : Read → List ℕ → Outcome
-read r memory = record { machine = machine (r .controller) memory; reply = readReply (r .answer) }
+abbrev pub readOutcome : Read → List ℕ → Outcome
+readOutcome r memory = record { machine = machine (r .controller) memory; reply = readReply (r .answer) }
 
 abbrev pub controller : Registers → Command → ℕ → Controller
 controller registers command place =

@@ -10,6 +10,7 @@ use Rattle.registers.specs.declared.Command.the-variants.{SystemSet, Disp, Scro
 use Rattle.registers.specs.Choice.{if_then_else_}
 use Rattle.registers.specs.Commands.{code, _is_, parameters}
 use Rattle.registers.specs.Parameters.{allowed}
+use Rattle.registers.specs.Sizes.{memorySize}
 use Rattle.model.specs.Calls.{BusCall, sending}
 
 abbrev pub All : {A : Type 0} → (A → Type 0) → List A → Type 0
@@ -36,9 +37,9 @@ abbrev pub allBytes : (c : Command) → AllValues c → List ℕ
 allBytes c vs = bytes c 0 (parameters c) vs
 
 -- how often a command stands in a list
-abbrev pub count : Command → List Command → ℕ
-count c [] = 0
-count c (d ∷ ds) = if c is d then suc (count c ds) else count c ds
+abbrev pub occurrences : Command → List Command → ℕ
+occurrences c [] = 0
+occurrences c (d ∷ ds) = if c is d then suc (occurrences c ds) else occurrences c ds
 
 -- what stands between SYSTEM SET and MWRITE
 abbrev pub nine : List Command
@@ -56,11 +57,11 @@ pub record Refresh : Type 0 where
   pub on : Bool
   -- between them in any order, each once
   pub order : List Command
-  pub once : (c : Command) → count c order ≡ count c nine
+  pub once : (c : Command) → occurrences c order ≡ occurrences c nine
   -- MWRITE with 32,768 bytes
   pub memory : List ℕ
   pub memory-bytes : All Byte memory
-  pub memory-full : length memory ≡ 32768
+  pub memory-full : length memory ≡ memorySize
 
 module _ (r : Refresh) where
   -- 4C of CSRDIR, 58 or 59 of DISP

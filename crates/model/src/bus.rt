@@ -12,11 +12,11 @@ use registers::Registers;
 ghost use Prim.Native.Nat.{ℕ};
 ghost use mathlib.Core.List.{List};
 ghost use mathlib.Core.Path.{_≡_};
-ghost use Rattle.model.specs.Machine.{resetController, machine, written, read, ended};
+ghost use Rattle.model.specs.Machine.{resetController, machine, writtenOutcome, readOutcome, ended};
 ghost use Rattle.model.specs.Bus.{ignored, served, commandWrite, dataWrite, cursorReads, addressByte, dataRead};
 
 // Whether a command is neither taken nor served: asleep, any but SYSTEM SET.
-fn is_ignored(command: Command, asleep: bool) -> bool
+fn ignored(command: Command, asleep: bool) -> bool
     ensures { λ r. ⌜ r ≡ ignored command asleep ⌝ }
 {
     if command.is(Command::SystemSet) {
@@ -27,7 +27,7 @@ fn is_ignored(command: Command, asleep: bool) -> bool
 }
 
 // How many reads a command gives, but for MREAD, whose reads have no end.
-fn reads(command: Command) -> u8
+fn cursor_reads(command: Command) -> u8
     ensures { λ r. ⌜ r ≡ cursorReads command ⌝ }
 {
     if command.is(Command::Csrr) { 2 } else { 0 }
@@ -75,7 +75,7 @@ impl Controller {
     {
         let pending = self.pending;
         let command = pending.command;
-        if is_ignored(command, self.registers.asleep) {
+        if ignored(command, self.registers.asleep) {
             Command::None
         } else {
             command
@@ -83,7 +83,7 @@ impl Controller {
     }
 
     pub fn command_write(mut self, b: u8) -> Written
-        ensures { λ r. ⌜ ((memory : List ℕ) → written r memory ≡ commandWrite (machine self memory) b) ⌝ }
+        ensures { λ r. ⌜ ((memory : List ℕ) → writtenOutcome r memory ≡ commandWrite (machine self memory) b) ⌝ }
     {
         let command = Command::of(b);
         if command.is(Command::None) {
@@ -92,7 +92,7 @@ impl Controller {
                 answer: Answer::Refused(Refusal::UnknownCommand),
             };
         }
-        if is_ignored(command, self.registers.asleep) {
+        if ignored(command, self.registers.asleep) {
             return Written {
                 controller: self.ended(),
                 answer: Answer::Refused(Refusal::Asleep),
@@ -111,7 +111,7 @@ impl Controller {
     }
 
     pub fn data_write(mut self, memory: &mut [u8], b: u8) -> Written
-        ensures { λ r. ⌜ written r (now (memory .exit)) ≡ dataWrite (machine self (now (memory .entry))) b ⌝ }
+        ensures { λ r. ⌜ writtenOutcome r (now (memory .exit)) ≡ dataWrite (machine self (now (memory .entry))) b ⌝ }
     {
         if memory.len() != MEMORY_SIZE {
             return Written {
@@ -146,7 +146,7 @@ impl Controller {
     }
 
     pub fn data_read(mut self, memory: &[u8]) -> Read
-        ensures { λ r. ⌜ read r (now (memory .entry)) ≡ dataRead (machine self (now (memory .entry))) ⌝ }
+        ensures { λ r. ⌜ readOutcome r (now (memory .entry)) ≡ dataRead (machine self (now (memory .entry))) ⌝ }
     {
         if memory.len() != MEMORY_SIZE {
             return Read {
@@ -159,7 +159,7 @@ impl Controller {
             return self.read_memory(memory);
         }
         let place = self.pending.place;
-        if reads(command) <= place {
+        if cursor_reads(command) <= place {
             return Read {
                 controller: self,
                 answer: ReadAnswer::Refused(Refusal::NothingToRead),

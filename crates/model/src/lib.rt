@@ -1,6 +1,7 @@
 // One S1D13700 in indirect mode: a controller by value beside display memory that the caller lends.
 mod bus;
 mod memory;
+mod rows;
 
 use registers::Answer;
 use registers::Command;

@@ -6,13 +6,13 @@ use registers::Answer;
 use registers::ReadAnswer;
 use registers::Refusal;
 ghost use mathlib.Core.Path.{_≡_};
-ghost use Rattle.model.specs.Machine.{machine, written, read};
+ghost use Rattle.model.specs.Machine.{machine, writtenOutcome, readOutcome};
 ghost use Rattle.model.specs.Bus.{writeMemory, readMemory};
 
 impl Controller {
     // The byte b stored at the cursor: the only store into display memory.
     pub(crate) fn write_memory(mut self, memory: &mut [u8], b: u8) -> Written
-        ensures { λ r. ⌜ written r (now (memory .exit)) ≡ writeMemory (machine self (now (memory .entry))) b ⌝ }
+        ensures { λ r. ⌜ writtenOutcome r (now (memory .exit)) ≡ writeMemory (machine self (now (memory .entry))) b ⌝ }
     {
         let cursor = self.registers.cursor;
         let at = cursor.address as usize;
@@ -33,7 +33,7 @@ impl Controller {
 
     // The byte at the cursor.
     pub(crate) fn read_memory(mut self, memory: &[u8]) -> Read
-        ensures { λ r. ⌜ read r (now (memory .entry)) ≡ readMemory (machine self (now (memory .entry))) ⌝ }
+        ensures { λ r. ⌜ readOutcome r (now (memory .entry)) ≡ readMemory (machine self (now (memory .entry))) ⌝ }
     {
         let cursor = self.registers.cursor;
         let at = cursor.address as usize;

@@ -25,8 +25,8 @@ bits high low b = b / 2 ^ low % 2 ^ (high + 1 - low)
 abbrev pub bit : ℕ → ℕ → Bool
 bit k b = bits k k b =? 1
 
-abbrev pub zero : ℕ → ℕ → ℕ → Bool
-zero high low b = bits high low b =? 0
+abbrev pub areZero : ℕ → ℕ → ℕ → Bool
+areZero high low b = bits high low b =? 0
 
 -- a two-byte register after its low byte came, and after its high byte came
 unfoldable pub withLow : ℕ → ℕ → ℕ
@@ -157,16 +157,16 @@ begin command b r =
 -- P1: bits 7, 6, 1 zero, 4 one. P2: 6-4 zero. P3: 7-4 zero
 unfoldable pub systemAllows : ℕ → ℕ → Bool
 systemAllows place b =
-    if place =? 0 then zero 7 6 b && bit 4 b && zero 1 1 b
-    else if place =? 1 then zero 6 4 b
-    else if place =? 2 then zero 7 4 b
+    if place =? 0 then areZero 7 6 b && bit 4 b && areZero 1 1 b
+    else if place =? 1 then areZero 6 4 b
+    else if place =? 2 then areZero 7 4 b
     else true
 
 -- P1: 7-4 zero. P2: 6-4 zero; CRY 0 not allowed
 unfoldable pub formAllows : ℕ → ℕ → Bool
 formAllows place b =
-    if place =? 0 then zero 7 4 b
-    else if place =? 1 then zero 6 4 b && not (zero 3 0 b)
+    if place =? 0 then areZero 7 4 b
+    else if place =? 1 then areZero 6 4 b && not (areZero 3 0 b)
     else true
 
 -- OVLAY: 7-5 zero. HDOT SCR: 7-3 zero. GRAY SCALE: 7-2 zero; 3 not allowed
@@ -174,9 +174,9 @@ unfoldable pub allowed : Command → ℕ → ℕ → Bool
 allowed command place b =
     if command is SystemSet then systemAllows place b
     else if command is CsrForm then formAllows place b
-    else if command is Ovlay then zero 7 5 b
-    else if command is HdotScr then zero 7 3 b
-    else if command is GrayScale then zero 7 2 b && not (b =? 3)
+    else if command is Ovlay then areZero 7 5 b
+    else if command is HdotScr then areZero 7 3 b
+    else if command is GrayScale then areZero 7 2 b && not (b =? 3)
     else true
 
 -- Reset: awake, every register and the cursor 0, direction right, display off

@@ -1,6 +1,6 @@
 -- 01, 'Blocks and layers of a row': what a block's bytes are fetched from.
 use Prim.Native.Nat.{ℕ, _+_, _-_, _*_, _/_, _%_}
-use mathlib.Core.Bool.{Bool}
+use mathlib.Core.Bool.{Bool, _||_}
 use mathlib.Core.List.{List}
 use lib.ListN.{getD}
 use Rattle.registers.specs.declared.Registers.{Registers}
@@ -26,15 +26,18 @@ glyphOf m0 code =
     else CgRam
 
 -- eight bytes each, top first; font rows from 8 on are blank
+abbrev pub fontIndex : ℕ → ℕ → ℕ
+fontIndex index row = index * 8 + row
+
 unfoldable pub fontByte : List ℕ → ℕ → ℕ → ℕ
-fontByte font index row = if row <? 8 then getD font (index * 8 + row) 0 else 0
+fontByte font index row = if row <? 8 then getD font (fontIndex index row) 0 else 0
 
 -- CGRAM ADR + code x 8 + glyph row, or code x 16 with M2 = 1; rows from 8 on are blank with M2 = 0
+abbrev pub cgRamAddress : Bool → ℕ → ℕ → ℕ → ℕ
+cgRamAddress m2 cgram code row = cgram + code * (if m2 then 16 else 8) + row
+
 unfoldable pub cgRamByte : Bool → ℕ → List ℕ → ℕ → ℕ → ℕ
-cgRamByte m2 cgram memory code row =
-    if m2 then fetch memory (cgram + code * 16 + row)
-    else if row <? 8 then fetch memory (cgram + code * 8 + row)
-    else 0
+cgRamByte m2 cgram memory code row = if m2 || row <? 8 then fetch memory (cgRamAddress m2 cgram code row) else 0
 
 unfoldable pub glyphRow : Glyph → Bool → ℕ → List ℕ → List ℕ → ℕ → ℕ → ℕ
 glyphRow Empty m2 cgram memory font code row = 0

@@ -15,6 +15,6 @@ command-write-spec =
     (λ c. let p = c .before .before in λ memory. rw (c .ended .ensures, ← p .before .of .ensures, sym (p .is .ensures) ∙ c .before .if1 .taken))
     (λ c κs. search needs)
     (λ c κs. search needs)
-    (λ c. let p = c .before .before .before in λ memory. rw (c .ended2 .ensures, ← p .before .before .of .ensures, sym (p .before .is .ensures) ∙ p .if1 .left, sym (c .before .before .is-ignored .ensures) ∙ c .before .if2 .taken))
+    (λ c. let p = c .before .before .before in λ memory. rw (c .ended2 .ensures, ← p .before .before .of .ensures, sym (p .before .is .ensures) ∙ p .if1 .left, sym (c .before .before .ignored .ensures) ∙ c .before .if2 .taken))
     (λ c κs. search needs)
-    (λ c. let p = c .before .before .before in λ memory. rw (c .begin .ensures, ← p .before .before .of .ensures, sym (p .before .is .ensures) ∙ p .if1 .left, sym (c .before .before .is-ignored .ensures) ∙ c .before .if2 .left)))
+    (λ c. let p = c .before .before .before in λ memory. rw (c .begin .ensures, ← p .before .before .of .ensures, sym (p .before .is .ensures) ∙ p .if1 .left, sym (c .before .before .ignored .ensures) ∙ c .before .if2 .left)))

@@ -10,5 +10,5 @@ served-spec =
     tie.close
     (tie.spec
     (λ c κs. search needs)
-    (λ c. rw (sym (c .before .is-ignored .ensures) ∙ c .if1 .taken))
-    (λ c. rw (sym (c .before .is-ignored .ensures) ∙ c .if1 .left)))
+    (λ c. rw (sym (c .before .ignored .ensures) ∙ c .if1 .taken))
+    (λ c. rw (sym (c .before .ignored .ensures) ∙ c .if1 .left)))

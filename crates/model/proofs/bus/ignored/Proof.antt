@@ -1,12 +1,12 @@
 use mathlib.Core.Path.{sym, _∙_}
 use Rattle.model.specs.Bus.{ignored}
 use borrow.Author.Needs.{needs}
-use Rattle.model.proofs.bus.is_ignored.Statement.{statement}
-use Rattle.model.proofs.bus.is_ignored.Tie as tie
+use Rattle.model.proofs.bus.ignored.Statement.{statement}
+use Rattle.model.proofs.bus.ignored.Tie as tie
 
-pub is-ignored-spec : {M : Type 1} → statement M
+pub ignored-spec : {M : Type 1} → statement M
 unfolding ignored
-is-ignored-spec =
+ignored-spec =
     tie.close
     (tie.spec
     (λ c κs. search needs)

@@ -1,12 +1,12 @@
 use mathlib.Core.Path.{sym, _∙_}
 use Rattle.model.specs.Bus.{cursorReads}
 use borrow.Author.Needs.{needs}
-use Rattle.model.proofs.bus.reads.Statement.{statement}
-use Rattle.model.proofs.bus.reads.Tie as tie
+use Rattle.model.proofs.bus.cursor_reads.Statement.{statement}
+use Rattle.model.proofs.bus.cursor_reads.Tie as tie
 
-pub reads-spec : {M : Type 1} → statement M
+pub cursor-reads-spec : {M : Type 1} → statement M
 unfolding cursorReads
-reads-spec =
+cursor-reads-spec =
     tie.close
     (tie.spec
     (λ c κs. search needs)

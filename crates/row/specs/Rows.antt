@@ -5,10 +5,16 @@ use lib.ListN.{length}
 use Rattle.registers.specs.declared.Answer.{Answer}
 use Rattle.registers.specs.declared.Registers.{Registers}
 use Rattle.registers.specs.Choice.{if_then_else_, _=?_}
+use Rattle.registers.specs.Counts.{count}
 use Rattle.registers.specs.Refusals.{reply}
 use Rattle.registers.specs.Layout.{inLayout}
-use Rattle.row.specs.Dots.{dots}
+use Rattle.row.specs.declared.FrameSize.{FrameSize}
+use Rattle.row.specs.Dots.{width, dots}
 use Rattle.row.specs.Refusals.{rowRefusal}
+
+-- the width of a row and the rows of a frame
+abbrev pub frameSize : Registers → FrameSize
+frameSize registers = record { width = width (inLayout registers); rows = count (inLayout registers .system .lf) }
 
 -- An answer is the refusal number, or 0 where there is none, and every dot of an accepted row
 pub record RowAnswer : Type 0 where

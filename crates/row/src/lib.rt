@@ -11,6 +11,9 @@ mod sources;
 mod spreading;
 
 pub use rows::compose;
+pub use rows::frame_size;
+
+use registers::Count;
 
 // What a layer shows on a row: nothing, or a row of a block, counted from the block's first.
 pub enum LayerRow {
@@ -46,6 +49,12 @@ pub struct ColumnSetup {
     pub mx: u8,
     pub gray: u8,
     pub cursor: u16,
+}
+
+// The dots of a row, and the rows of a frame.
+pub struct FrameSize {
+    pub width: usize,
+    pub rows: Count,
 }
 
 // Which refusals of a row apply.

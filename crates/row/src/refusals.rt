@@ -32,7 +32,7 @@ pub fn dots_per_column(gray: u8, fx: Code) -> u16
 }
 
 // The dots of all columns.
-fn columns_width(cr: Code, per: u16) -> usize
+pub fn columns_width(cr: Code, per: u16) -> usize
     ensures { λ w. ⌜ w ≡ ⁅ cr ⁆ * per ⌝ }
 {
     let columns = cr.count();

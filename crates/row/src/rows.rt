@@ -1,10 +1,12 @@
 // A row of dots.
 use crate::ColumnSetup;
+use crate::FrameSize;
 use crate::columns::columns;
 use crate::cursor::cursor_row;
 use crate::layers::layer1;
 use crate::layers::layer2;
 use crate::layers::layer3;
+use crate::refusals::columns_width;
 use crate::refusals::dots_per_column;
 use crate::refusals::row_answer;
 use crate::sources::layer_source;
@@ -14,7 +16,7 @@ ghost use mathlib.Core.Path.{_≡_};
 ghost use lib.ListN.{length};
 ghost use Rattle.registers.specs.Refusals.{reply};
 ghost use Rattle.row.specs.Dots.{width, table, dots};
-ghost use Rattle.row.specs.Rows.{rowOutcome, rowReply};
+ghost use Rattle.row.specs.Rows.{frameSize, rowOutcome, rowReply};
 ghost use Rattle.row.specs.Columns.{Composable, shownDot};
 
 // A row of zeros.
@@ -77,6 +79,18 @@ fn draw(r: Registers, memory: &[u8], font: &[u8], frame: u32, n: u16, out: &mut 
         return;
     }
     clear(out);
+}
+
+// How large a frame is, refused or not.
+pub fn frame_size(registers: Registers) -> FrameSize
+    ensures { λ z. ⌜ z ≡ frameSize registers ⌝ }
+{
+    let r = registers.in_layout();
+    let s = r.system;
+    FrameSize {
+        width: columns_width(s.cr, dots_per_column(r.gray, s.fx)),
+        rows: s.lf.count(),
+    }
 }
 
 // Row n of a frame into a buffer of a byte a dot, which stands where the row is refused.

@@ -1,0 +1,34 @@
+// Records of a bus file: payload length and kind, two bytes each, and the payload; little-endian.
+mod records;
+
+pub use records::double_word;
+pub use records::part;
+pub use records::record_at;
+pub use records::word;
+
+// Kind 1: a command byte, then its data writes. Kind 2: a count of reads. Kind 3: a frame to show.
+pub enum Kind {
+    Bus,
+    Reads,
+    Frame,
+}
+
+// A record's payload starts at start and ends at end, where the next record stands.
+pub struct Record {
+    pub kind: Kind,
+    pub start: usize,
+    pub end: usize,
+}
+
+// What stands at a place of a bus file.
+pub enum Found {
+    Record(Record),
+    Bad,
+    End,
+}
+
+// Whether a kind and a length go together.
+pub enum Shape {
+    Good(Kind),
+    Wrong,
+}

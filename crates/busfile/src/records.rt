@@ -1,0 +1,112 @@
+// What stands at a place of a bus file.
+use crate::Found;
+use crate::Kind;
+use crate::Record;
+use crate::Shape;
+ghost use mathlib.Core.Path.{_≡_};
+ghost use lib.ListN.{getD};
+ghost use Rattle.busfile.specs.Records.{wordOf, doubleWordOf, shapeOf, recordAt, partOf};
+
+// The byte at a place, 0 past the end.
+fn byte(s: &[u8], at: usize) -> u8
+    ensures { λ r. ⌜ r ≡ getD (now (s .entry)) at 0 ⌝ }
+{
+    if at < s.len() {
+        s[at]
+    } else {
+        0
+    }
+}
+
+// The number that the first two bytes are.
+pub fn word(s: &[u8]) -> u16
+    ensures { λ r. ⌜ r ≡ wordOf (now (s .entry)) ⌝ }
+{
+    byte(s, 0) as u16 + 256 * byte(s, 1) as u16
+}
+
+// The number that the first four bytes are.
+pub fn double_word(s: &[u8]) -> u32
+    ensures { λ r. ⌜ r ≡ doubleWordOf (now (s .entry)) ⌝ }
+{
+    let high = word(part(s, 2, s.len()));
+    word(s) as u32 + 65536 * high as u32
+}
+
+// The part of s from start to end, as far as s goes.
+pub fn part(s: &[u8], start: usize, end: usize) -> &[u8]
+    ensures { λ r. ⌜ now r ≡ partOf (now (s .entry)) start end ⌝ }
+{
+    if s.len() <= start {
+        return &s[..0];
+    }
+    if end <= start {
+        return &s[..0];
+    }
+    if s.len() <= end {
+        return &s[start..];
+    }
+    &s[start..end]
+}
+
+fn shape_of(kind: u16, size: u16) -> Shape
+    ensures { λ r. ⌜ r ≡ shapeOf kind size ⌝ }
+{
+    if 65532 < size {
+        return Shape::Wrong;
+    }
+    match kind {
+        1 => {
+            if size == 0 {
+                Shape::Wrong
+            } else {
+                Shape::Good(Kind::Bus)
+            }
+        }
+        2 => {
+            if size == 2 {
+                Shape::Good(Kind::Reads)
+            } else {
+                Shape::Wrong
+            }
+        }
+        3 => {
+            if size == 4 {
+                Shape::Good(Kind::Frame)
+            } else {
+                Shape::Wrong
+            }
+        }
+        _ => Shape::Wrong,
+    }
+}
+
+pub fn record_at(s: &[u8], at: usize) -> Found
+    ensures { λ r. ⌜ r ≡ recordAt (now (s .entry)) at ⌝ }
+{
+    if s.len() <= at {
+        return Found::End;
+    }
+    if s.len() - at < 4 {
+        return Found::Bad;
+    }
+    let size = word(&s[at..]);
+    let from = at + 2;
+    let shape = shape_of(word(&s[from..]), size);
+    let start = at + 4;
+    let length = size as usize;
+    match shape {
+        Shape::Wrong => Found::Bad,
+        Shape::Good(kind) => {
+            if s.len() - start < length {
+                Found::Bad
+            } else {
+                Found::Record(Record {
+                    kind: kind,
+                    start: start,
+                    end: start + length,
+                })
+            }
+        }
+    }
+}

@@ -1,0 +1,37 @@
+use Prim.Native.Nat.{ℕ, _+_, _-_, _<_, _≤_}
+use mathlib.Core.List.{List, _++_, append-nil}
+use mathlib.Core.Path.{_≡_, refl, ap, _∙_}
+use native.Mathlib.Nat.{add-sub-cancel-left}
+use native.Mathlib.Omega.{arith}
+use lib.ListN.{length, take, drop, length-drop, drop-of-length-le}
+use lib.Seq.{take-length, drop-drop, length-take-le}
+use borrow.Author.Tests.{le-leb, lt-leb}
+use borrow.Author.Needs.{needs}
+use Rattle.lines.proofs.append.Statement.{statement}
+use Rattle.lines.proofs.append.Tie as tie
+
+-- what the copy leaves of a part as long as the text
+whole : (text part : List ℕ) → length part ≡ length text → take (length text) text ++ drop (length text) part ≡ text
+whole text part e = rw (take-length, drop-of-length-le part {i = length text} (omega arith), append-nil)
+
+-- a part put back where the text stands in it
+joined : (l text : List ℕ) {ys : List ℕ} (u : ℕ) → ys ≡ text → take u l ++ (ys ++ drop (u + length text - u) (drop u l)) ≡ take u l ++ (text ++ drop (u + length text) l)
+joined l text u e = rw (e, add-sub-cancel-left, drop-drop)
+
+part-length : (l : List ℕ) (u n : ℕ) → u + n ≤ length l → length (take (u + n - u) (drop u l)) ≡ n
+part-length l u n h = rw add-sub-cancel-left (length-take-le n (drop u l) (rw length-drop (omega arith)))
+
+pub append-spec : {M : Type 1} → statement M
+append-spec =
+    tie.close
+    (tie.spec
+    (λ c. let a = c .before .before .before .args in let e = lt-leb (a .used + length (a .text .now)) (length (a .buffer .now)) (omega (arith, c .if1 .taken)) in (rw e, rw e))
+    (λ c. search needs)
+    (λ c. let a = c .before .before .before .before .args in let e = lt-leb (a .used + length (a .text .now)) (length (a .buffer .now)) (omega (arith, c .if2 .taken, c .before .if1 .left)) in (rw e, rw e))
+    (λ c. search needs)
+    (λ c. search needs)
+    (λ c. search needs)
+    (λ c. search needs)
+    (λ c κs. search needs)
+    (λ c. search needs)
+    (λ c. let a = c .before .before .before .before .before .before .before .before .args in let e = le-leb (a .used + length (a .text .now)) (length (a .buffer .now)) (omega arith) in (rw e, rw e (joined (a .buffer .now) (a .text .now) (a .used) (c .before .before .copy .ensures .1 ∙ whole (a .text .now) _ (part-length (a .buffer .now) (a .used) _ (omega arith)))))))

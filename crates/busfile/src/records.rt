@@ -11,11 +11,7 @@ ghost use Rattle.busfile.specs.Records.{wordOf, doubleWordOf, shapeOf, r
 fn byte(s: &[u8], at: usize) -> u8
     ensures { λ r. ⌜ r ≡ getD (now (s .entry)) at 0 ⌝ }
 {
-    if at < s.len() {
-        s[at]
-    } else {
-        0
-    }
+    if at < s.len() { s[at] } else { 0 }
 }
 
 // The number that the first two bytes are.

@@ -17,6 +17,7 @@ use Rattle.row.specs.Glyphs.{glyphOf}
 use Rattle.row.specs.Flashing.{isOn, flashing, isLit}
 use Rattle.row.specs.Dots.{dotsPerColumn, width}
 use Rattle.row.specs.Refusals.{grayUnfit, linesOdd, orderUnfit, cursorUnfit, rowRefusal}
+use Rattle.row.specs.Rows.{rowAnswer}
 use Rattle.model.specs.Machine.{Machine, Outcome, accept, refuse}
 use Rattle.model.specs.Bus.{ignored, commandWrite, served, accessed, dataWrite, dataRead, writeParameter, writeMemory}
 use Rattle.model.specs.Calls.{BusCall, command, write, read, call, after, reset}
@@ -66,7 +67,7 @@ module _ (memory : List ℕ) (full : length memory ≡ 32768) where
   )
 
 pub edges-hold : EdgesHold
-unfolding commandOf begin store storeSystem storeDisplay storeBlocks storeForm storeOverlay directionOf withLow withHigh allowed systemAllows formAllows nextAddress ignored commandWrite served writeParameter inLayout field rowRefusal grayUnfit linesOdd orderUnfit cursorUnfit threeLayers width dotsPerColumn isLit flashing isOn glyphOf
+unfolding commandOf begin store storeSystem storeDisplay storeBlocks storeForm storeOverlay directionOf withLow withHigh allowed systemAllows formAllows nextAddress ignored commandWrite served writeParameter inLayout field rowAnswer rowRefusal grayUnfit linesOdd orderUnfit cursorUnfit threeLayers width dotsPerColumn isLit flashing isOn glyphOf
 edges-hold memory full =
     let stored = getD-set-same memory 0x7FFF 0xA5 0 (omega arith) in
     hold memory full edges (

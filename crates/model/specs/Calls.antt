@@ -47,24 +47,24 @@ pub data Call : Type 0 where
   bus : BusCall → Call
   row : RowRequest → Call
 
-pub data Answer : Type 0 where
-  replied : Reply → Answer
-  composed : RowAnswer → Answer
+pub data CallAnswer : Type 0 where
+  replied : Reply → CallAnswer
+  composed : RowAnswer → CallAnswer
 
-pub record Answered : Type 0 where
+pub record CallOutcome : Type 0 where
   pub machine : Machine
-  pub answer : Answer
+  pub answer : CallAnswer
 
 -- a row leaves the machine as it is
-abbrev pub answer : Machine → Call → Answered
-answer m (bus c) = record { machine = call m c .machine; answer = replied (call m c .reply) }
-answer m (row q) =
+abbrev pub callOutcome : Machine → Call → CallOutcome
+callOutcome m (bus c) = record { machine = call m c .machine; answer = replied (call m c .reply) }
+callOutcome m (row q) =
     record {
       machine = m;
       answer = composed (rowAnswer (m .controller .registers) (m .memory) (q .font) (q .frame) (q .row) (q .buffer));
     }
 
 -- after each call of a list: registers, cursor and memory, and the answer
-abbrev pub trace : Machine → List Call → List Answered
+abbrev pub trace : Machine → List Call → List CallOutcome
 trace m [] = []
-trace m (c ∷ cs) = answer m c ∷ trace (answer m c .machine) cs
+trace m (c ∷ cs) = callOutcome m c ∷ trace (callOutcome m c .machine) cs

@@ -4,7 +4,6 @@ use Prim.Native.Nat.{ℕ, _%_}
 use mathlib.Core.List.{List, [], _∷_, _++_}
 use mathlib.Core.Path.{_≡_}
 use lib.ListN.{length, getD, replicate}
-use Rattle.registers.specs.declared.Registers.{Registers}
 use Rattle.registers.specs.Choice.{if_then_else_}
 use Rattle.registers.specs.Sizes.{memorySize, fontSize}
 use Rattle.registers.specs.Layout.{inLayout}
@@ -12,7 +11,7 @@ use Rattle.row.specs.declared.Glyph.{Glyph}
 use Rattle.row.specs.declared.Glyph.the-variants.{Empty, Font, CgRam}
 use Rattle.row.specs.Glyphs.{glyphOf, fontIndex, cgRamAddress}
 use Rattle.row.specs.Flashing.{isLit}
-use Rattle.row.specs.Refusals.{rowRefusal}
+use Rattle.row.specs.Rows.{rowAnswer}
 use Rattle.model.specs.Machine.{Outcome}
 use Rattle.model.specs.Calls.{BusCall, command, write, sending, call, after, reset}
 use Rattle.model.specs.Refresh.{All}
@@ -29,24 +28,30 @@ pub data Look : Type 0 where
   -- 1 where a block shows in a frame, else 0
   lit : ℕ → ℕ → Look
   -- of glyph row 0 of a code: the index of its font byte, and its CG RAM address
-  fontByte : ℕ → Look
-  cgRamByte : ℕ → Look
+  fontIndexOf : ℕ → Look
+  cgRamAddressOf : ℕ → Look
 
+-- past the font where a glyph is not of the font, past all addresses where it is not of CG RAM
 abbrev pub indexIn : Glyph → ℕ
-indexIn Empty = 0
+indexIn Empty = fontSize
 indexIn (Font index) = fontIndex index 0
-indexIn CgRam = 0
+indexIn CgRam = fontSize
+
+abbrev pub addressIn : Glyph → ℕ → ℕ
+addressIn Empty address = 65536
+addressIn (Font index) address = 65536
+addressIn CgRam address = address % 65536
 
 abbrev pub seen : Look → Outcome → ℕ
 seen refusal o = o .reply .refusal
 seen cursor o = o .machine .controller .registers .cursor .address
 seen (byte address) o = getD (o .machine .memory) address 0
-seen (row0 buffer) o = rowRefusal (inLayout (o .machine .controller .registers)) (length (o .machine .memory)) fontSize 0 buffer
+seen (row0 buffer) o = rowAnswer (o .machine .controller .registers) (o .machine .memory) (replicate fontSize 0) 0 0 buffer .refusal
 seen (lit block frame) o = if isLit (inLayout (o .machine .controller .registers) .display .fp) block frame then 1 else 0
-seen (fontByte code) o = indexIn (glyphOf (o .machine .controller .registers .system .m0) code)
-seen (cgRamByte code) o =
+seen (fontIndexOf code) o = indexIn (glyphOf (o .machine .controller .registers .system .m0) code)
+seen (cgRamAddressOf code) o =
     let r = o .machine .controller .registers in
-    cgRamAddress (r .system .m2) (r .cgram) code 0 % 65536
+    addressIn (glyphOf (r .system .m0) code) (cgRamAddress (r .system .m2) (r .cgram) code 0)
 
 pub record Edge : Type 0 where
   pub before : List BusCall
@@ -111,9 +116,9 @@ edges =
     ∷ edge (sending 0x59 []) (write 0x0C) (lit 1 2) 1
     ∷ edge (sending 0x59 []) (write 0x0C) (lit 1 3) 0
     -- code 41h, glyph row 0: font byte 264
-    ∷ edge [] (command 0x40) (fontByte 0x41) 264
+    ∷ edge [] (command 0x40) (fontIndexOf 0x41) 264
     -- code E0h, CGRAM ADR F900h, M2 = 0: address 0000h
-    ∷ edge (sending 0x5C (0x00 ∷ [])) (write 0xF9) (cgRamByte 0xE0) 0x0000
+    ∷ edge (sending 0x5C (0x00 ∷ [])) (write 0xF9) (cgRamAddressOf 0xE0) 0x0000
     -- [FX] 8, 1 bit: [C/R] 80 gives 640 dots, 81 gets 11
     ∷ edge (columns 79 83) (write 0) (row0 640) 0
     ∷ edge (columns 80 84) (write 0) (row0 648) 11

@@ -98,12 +98,20 @@ fn run_record(
     match kind {
         Kind::Bus => run_bus(s, memory, out, payload, record),
         Kind::Reads => run_reads(s, memory, out, busfile::word(payload), record),
-        Kind::Frame => show(s, memory, font, out, row, busfile::double_word(payload), record),
+        Kind::Frame => show(
+            s,
+            memory,
+            font,
+            out,
+            row,
+            busfile::double_word(payload),
+            record,
+        ),
     }
 }
 
 // The next record, where there is one.
-fn step(
+fn run_next(
     p: Progress,
     s: Session,
     memory: &mut [u8],
@@ -185,7 +193,7 @@ pub fn run_file(memory: &mut [u8], font: &[u8], input: &mut [u8], out: &mut [u8]
             break;
         }
         progress = fill(progress, input);
-        let next = step(progress, session, memory, font, input, out, row);
+        let next = run_next(progress, session, memory, font, input, out, row);
         progress = next.progress;
         session = next.session;
         turns -= 1;

@@ -81,7 +81,12 @@ pub fn put_read(o: Output, out: &mut [u8], answer: ReadAnswer, record: u64, inde
     match answer {
         ReadAnswer::Refused(refusal) => refused(o, out, record, index, refusal.number()),
         ReadAnswer::Value(v) => {
-            let digits = [b' ', lines::hex_digit(v / 16), lines::hex_digit(v % 16), b'\n'];
+            let digits = [
+                b' ',
+                lines::hex_digit(v / 16),
+                lines::hex_digit(v % 16),
+                b'\n',
+            ];
             let o = start(o, out, b"read", record);
             let o = next_number(o, out, index);
             put(o, out, &digits)
@@ -90,7 +95,14 @@ pub fn put_read(o: Output, out: &mut [u8], answer: ReadAnswer, record: u64, inde
 }
 
 // `frame RECORD FRAME WIDTH ROWS`
-pub fn put_frame(o: Output, out: &mut [u8], record: u64, frame: u32, width: usize, rows: u16) -> Output {
+pub fn put_frame(
+    o: Output,
+    out: &mut [u8],
+    record: u64,
+    frame: u32,
+    width: usize,
+    rows: u16,
+) -> Output {
     let o = start(o, out, b"frame", record);
     let o = next_number(o, out, frame as u64);
     let o = next_number(o, out, width as u64);

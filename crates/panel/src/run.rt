@@ -14,7 +14,14 @@ pub struct Session {
 }
 
 // One byte of a kind 1 record: the first is a command, the others are data.
-fn run_byte(s: Session, memory: &mut [u8], out: &mut [u8], b: u8, record: u64, byte: u64) -> Session {
+fn run_byte(
+    s: Session,
+    memory: &mut [u8],
+    out: &mut [u8],
+    b: u8,
+    record: u64,
+    byte: u64,
+) -> Session {
     let written = if byte == 1 {
         s.controller.command_write(b)
     } else {
@@ -28,7 +35,13 @@ fn run_byte(s: Session, memory: &mut [u8], out: &mut [u8], b: u8, record: u64, b
 }
 
 // A command byte, then its data writes.
-pub fn run_bus(s: Session, memory: &mut [u8], out: &mut [u8], payload: &[u8], record: u64) -> Session {
+pub fn run_bus(
+    s: Session,
+    memory: &mut [u8],
+    out: &mut [u8],
+    payload: &[u8],
+    record: u64,
+) -> Session {
     let mut session = s;
     let mut i: usize = 0;
     while i < payload.len() {
@@ -60,7 +73,15 @@ pub fn run_reads(s: Session, memory: &[u8], out: &mut [u8], count: u16, record: 
 }
 
 // The rows of a frame whose first row is accepted.
-fn show_rows(s: Session, memory: &[u8], font: &[u8], out: &mut [u8], row: &mut [u8], frame: u32, rows: u16) -> Session {
+fn show_rows(
+    s: Session,
+    memory: &[u8],
+    font: &[u8],
+    out: &mut [u8],
+    row: &mut [u8],
+    frame: u32,
+    rows: u16,
+) -> Session {
     let controller = s.controller;
     let mut o = s.output;
     let mut n: u16 = 0;
@@ -105,13 +126,30 @@ fn show_frame(
 }
 
 // A frame number to show. A row wider than the buffer is refused before its buffer is looked at.
-pub fn show(s: Session, memory: &[u8], font: &[u8], out: &mut [u8], row: &mut [u8], frame: u32, record: u64) -> Session {
+pub fn show(
+    s: Session,
+    memory: &[u8],
+    font: &[u8],
+    out: &mut [u8],
+    row: &mut [u8],
+    frame: u32,
+    record: u64,
+) -> Session {
     let controller = s.controller;
     let size = row::frame_size(controller.registers);
     let width = size.width;
     let rows = size.rows;
     if width <= row.len() {
-        return show_frame(s, memory, font, out, &mut row[..width], frame, rows.0, record);
+        return show_frame(
+            s,
+            memory,
+            font,
+            out,
+            &mut row[..width],
+            frame,
+            rows.0,
+            record,
+        );
     }
     show_frame(s, memory, font, out, row, frame, rows.0, record)
 }

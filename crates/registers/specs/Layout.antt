@@ -11,8 +11,8 @@ use Rattle.registers.specs.declared.Registers.{Registers}
 unfoldable pub field : ℕ → ℕ → ℕ
 field limit v = if v <? limit then v else 0
 
-abbrev pub readSystem : System → System
-readSystem s =
+abbrev pub systemInLayout : System → System
+systemInLayout s =
     record {
       iv = s .iv;
       ws = s .ws;
@@ -27,23 +27,23 @@ readSystem s =
       ap = s .ap;
     }
 
-abbrev pub readDisplay : Display → Display
-readDisplay d = record { on = d .on; fp = field 64 (d .fp); fc = field 4 (d .fc) }
+abbrev pub displayInLayout : Display → Display
+displayInLayout d = record { on = d .on; fp = field 64 (d .fp); fc = field 4 (d .fc) }
 
-abbrev pub readForm : CursorForm → CursorForm
-readForm f = record { crx = codeOf (field 16 (f .crx .0)); cm = f .cm; cry = codeOf (field 16 (f .cry .0)) }
+abbrev pub formInLayout : CursorForm → CursorForm
+formInLayout f = record { crx = codeOf (field 16 (f .crx .0)); cm = f .cm; cry = codeOf (field 16 (f .cry .0)) }
 
-abbrev pub readOverlay : Overlay → Overlay
-readOverlay o = record { ov = o .ov; dm2 = o .dm2; dm1 = o .dm1; mx = field 4 (o .mx) }
+abbrev pub overlayInLayout : Overlay → Overlay
+overlayInLayout o = record { ov = o .ov; dm2 = o .dm2; dm1 = o .dm1; mx = field 4 (o .mx) }
 
 unfoldable pub inLayout : Registers → Registers
 inLayout r =
     record {
-      system = readSystem (r .system);
-      display = readDisplay (r .display);
+      system = systemInLayout (r .system);
+      display = displayInLayout (r .display);
       blocks = r .blocks;
-      form = readForm (r .form);
-      overlay = readOverlay (r .overlay);
+      form = formInLayout (r .form);
+      overlay = overlayInLayout (r .overlay);
       cgram = r .cgram;
       hdot = field 8 (r .hdot);
       gray = field 3 (r .gray);

@@ -5,7 +5,7 @@ use crate::Overlay;
 use crate::Registers;
 use crate::System;
 ghost use mathlib.Core.Path.{_≡_};
-ghost use Rattle.registers.specs.Layout.{field, readSystem, readDisplay, readForm, readOverlay, inLayout};
+ghost use Rattle.registers.specs.Layout.{field, systemInLayout, displayInLayout, formInLayout, overlayInLayout, inLayout};
 
 // The value v of a field, 0 where it is not below the limit.
 fn read_field(limit: u8, v: u8) -> u8
@@ -16,7 +16,7 @@ fn read_field(limit: u8, v: u8) -> u8
 
 impl System {
     pub fn in_layout(mut self) -> System
-        ensures { λ r. ⌜ r ≡ readSystem self ⌝ }
+        ensures { λ r. ⌜ r ≡ systemInLayout self ⌝ }
     {
         let fx = read_field(16, self.fx.0);
         let fy = read_field(16, self.fy.0);
@@ -28,7 +28,7 @@ impl System {
 
 impl Display {
     pub fn in_layout(mut self) -> Display
-        ensures { λ r. ⌜ r ≡ readDisplay self ⌝ }
+        ensures { λ r. ⌜ r ≡ displayInLayout self ⌝ }
     {
         self.fp = read_field(64, self.fp);
         self.fc = read_field(4, self.fc);
@@ -38,7 +38,7 @@ impl Display {
 
 impl CursorForm {
     pub fn in_layout(mut self) -> CursorForm
-        ensures { λ r. ⌜ r ≡ readForm self ⌝ }
+        ensures { λ r. ⌜ r ≡ formInLayout self ⌝ }
     {
         let crx = read_field(16, self.crx.0);
         let cry = read_field(16, self.cry.0);
@@ -50,7 +50,7 @@ impl CursorForm {
 
 impl Overlay {
     pub fn in_layout(mut self) -> Overlay
-        ensures { λ r. ⌜ r ≡ readOverlay self ⌝ }
+        ensures { λ r. ⌜ r ≡ overlayInLayout self ⌝ }
     {
         self.mx = read_field(4, self.mx);
         self

@@ -142,7 +142,7 @@ pub enum Refusal {
     BufferSize,
 }
 
-// What a write answers.
+// What a write or a row answers.
 pub enum Answer {
     Accepted,
     Refused(Refusal),

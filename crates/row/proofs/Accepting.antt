@@ -19,7 +19,7 @@ use Rattle.registers.specs.Layout.{field, inLayout}
 use Rattle.registers.proofs.Numbers.{number-not-0}
 use Rattle.row.specs.Dots.{width, dots}
 use Rattle.row.specs.Refusals.{grayUnfit, linesOdd, orderUnfit, cursorUnfit, rowRefusal}
-use Rattle.row.specs.Rows.{rowReply, rowAnswer, rowOutcome}
+use Rattle.row.specs.Rows.{composedOutcome, rowAnswer, rowOutcome}
 use Rattle.row.specs.Columns.{Composable}
 
 -- a test that would refuse has failed
@@ -75,12 +75,12 @@ accepted r code memory font n buffer e =
 
 pub outcome-accepted : (registers : Registers) (memory font : List ℕ) (frame n : ℕ) (out : List ℕ) {drawn : List ℕ}
     → rowRefusal (inLayout registers) (length memory) (length font) n (length out) ≡ 0 → drawn ≡ dots (inLayout registers) memory font frame n
-    → rowReply Accepted drawn ≡ rowOutcome registers memory font frame n out
+    → composedOutcome Accepted drawn ≡ rowOutcome registers memory font frame n out
 unfolding rowOutcome rowAnswer
 outcome-accepted registers memory font frame n out e d = rw (e, d)
 
 pub outcome-refused : (registers : Registers) (memory font : List ℕ) (frame n : ℕ) (out : List ℕ) (a : Answer) {refusal : Refusal}
     → a ≡ Refused refusal → reply a .refusal ≡ rowRefusal (inLayout registers) (length memory) (length font) n (length out)
-    → rowReply (Refused refusal) out ≡ rowOutcome registers memory font frame n out
+    → composedOutcome (Refused refusal) out ≡ rowOutcome registers memory font frame n out
 unfolding rowOutcome rowAnswer
 outcome-refused registers memory font frame n out a {refusal} r e = rw (← e, r, ne-eqb (number refusal) 0 (number-not-0 refusal))

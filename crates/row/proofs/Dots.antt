@@ -1,6 +1,6 @@
 -- The dots of the bytes that the code computes are the dots that the definition gives. It knows no code.
 use Prim.Native.Nat.{ℕ, zero, suc, _+_, _-_, _*_, _/_, _%_, _^_, _<_, _≤_}
-use mathlib.Core.Bool.{Bool, true, false, not, _&&_, and-false}
+use mathlib.Core.Bool.{Bool, true, false, not, _&&_}
 use mathlib.Core.List.{List}
 use mathlib.Core.Logic.{⊎-elim}
 use mathlib.Core.Path.{_≡_, refl, sym, ap, _∙_, subst}
@@ -21,8 +21,8 @@ use Rattle.row.specs.Glyphs.{fetch, glyphByte, codeAddress, blockByte}
 use Rattle.row.specs.Flashing.{isLit, cursorOn}
 use Rattle.row.specs.Cursor.{inShape, hasCursor, inverted}
 use Rattle.row.specs.Mixing.{firstOf, mix}
-use Rattle.row.specs.Dots.{bitsPerDot, dotsPerColumn, perColumn, width, dotOf, layerByte, columnDot, dot, table, dots}
-use Rattle.row.specs.Columns.{lineAddress, blockSource, layerSource, columnSetup, sourceByte, firstBits, cursorRow, cursorMask, cursorRowOf, invertedByte, firstPairs, firstNibbles, mixByte, columnByte, columnsDot, shownDot, Room, Composable}
+use Rattle.row.specs.Dots.{bitsPerDot, dotsPerColumn, perColumn, width, dotOf, layerByte, columnDot, shownDot, dot, table, dots}
+use Rattle.row.specs.Columns.{lineAddress, blockSource, layerSource, columnSetup, sourceByte, firstBits, cursorRow, cursorMask, cursorRowOf, invertedByte, firstPairs, firstNibbles, firstByte, mixByte, columnByte, columnsDot, Room, Composable}
 use Rattle.row.proofs.Tables.{same-table, lt-or-le}
 use Rattle.row.proofs.Addresses.{fetch-at}
 
@@ -127,34 +127,27 @@ dot-nibbles a b c =
     (omega (arith, first-mod 16 (a / 16) (b / 16) (c / 16) (omega arith)))
     (simp div-one (omega (arith, first-mod 16 a b c (omega arith))))
 
--- dot j is one of a column's at a grey code
-record Place (gray j : ℕ) : Type 0 where
-  code : gray < 3
-  one : gray ≡ 0 → j < 8
-  two : gray ≡ 1 → j < 4
-  four : gray ≡ 2 → j < 2
-
-mix-first : (gray a b c j : ℕ) → Place gray j
-    → dotOf (2 ^ gray) (if gray =? 0 then bitOr (bitOr a b) c else if gray =? 1 then firstPairs a b c else firstNibbles a b c) j
-    ≡ firstOf (dotOf (2 ^ gray) a j) (dotOf (2 ^ gray) b j) (dotOf (2 ^ gray) c j)
-mix-first zero a b c j h =
+-- dot j of the n of a column
+mix-first : (gray n a b c j : ℕ) → Room gray n → j < n
+    → dotOf (2 ^ gray) (firstByte gray a b c) j ≡ firstOf (dotOf (2 ^ gray) a j) (dotOf (2 ^ gray) b j) (dotOf (2 ^ gray) c j)
+unfolding firstByte
+mix-first zero n a b c j h l =
     dot-or 1 (bitOr a b) c j ∙ ap (λ (x : ℕ). bitOr x (dotOf 1 c j)) (dot-or 1 a b j)
     ∙ first-or (dotOf 1 a j) (dotOf 1 b j) (dotOf 1 c j) (dot-lt 1 a j) (dot-lt 1 b j) (dot-lt 1 c j)
-mix-first (suc zero) a b c j h = dot-pairs a b c j (h .two refl)
-mix-first (suc (suc zero)) a b c j h = dot-nibbles a b c j (h .four refl)
-mix-first (suc (suc (suc g))) a b c j h = absurd (let z = h .code in omega arith)
+mix-first (suc zero) n a b c j h l = dot-pairs a b c j (rw (h .two refl) at l)
+mix-first (suc (suc zero)) n a b c j h l = dot-nibbles a b c j (rw (h .four refl) at l)
+mix-first (suc (suc (suc g))) n a b c j h l = absurd (let z = h .code in omega arith)
 
-mix-dots : (mx gray a b c j : ℕ) → Place gray j
+mix-dots : (mx gray n a b c j : ℕ) → Room gray n → j < n
     → dotOf (2 ^ gray) (mixByte mx gray a b c) j ≡ mix mx (dotOf (2 ^ gray) a j) (dotOf (2 ^ gray) b j) (dotOf (2 ^ gray) c j)
 unfolding mixByte mix
-mix-dots mx gray a b c j h = go (mx =? 0) (mx =? 1) (mx =? 2)
+mix-dots mx gray n a b c j h l = go (mx =? 0) (mx =? 1) (mx =? 2)
   where
     k : ℕ
     k = 2 ^ gray
 
     go : (x y z : Bool)
-        → dotOf k (if x then bitOr (bitOr a b) c else if y then bitOr (bitXor a b) c else if z then bitOr (bitAnd a b) c
-        else if gray =? 0 then bitOr (bitOr a b) c else if gray =? 1 then firstPairs a b c else firstNibbles a b c) j
+        → dotOf k (if x then bitOr (bitOr a b) c else if y then bitOr (bitXor a b) c else if z then bitOr (bitAnd a b) c else firstByte gray a b c) j
         ≡ (if x then bitOr (bitOr (dotOf k a j) (dotOf k b j)) (dotOf k c j)
         else if y then bitOr (bitXor (dotOf k a j) (dotOf k b j)) (dotOf k c j)
         else if z then bitOr (bitAnd (dotOf k a j) (dotOf k b j)) (dotOf k c j)
@@ -162,7 +155,7 @@ mix-dots mx gray a b c j h = go (mx =? 0) (mx =? 1) (mx =? 2)
     go true y z = rw (dot-or k (bitOr a b) c j, dot-or k a b j)
     go false true z = rw (dot-or k (bitXor a b) c j, dot-xor k a b j)
     go false false true = rw (dot-or k (bitAnd a b) c j, dot-and k a b j)
-    go false false false = mix-first gray a b c j h
+    go false false false = mix-first gray n a b c j h l
 
 -- The cursor
 
@@ -216,10 +209,10 @@ text-one-bit r h block e = ⊎-elim (λ z. z) (λ pos. absurd (no-text pos)) (eq
         subst T z tt
 
 cursor-dots : (r : Registers) (frame : ℕ) (layer : LayerRow) (c a j : ℕ) → Composable r → (r .gray ≡ 0 → j < 8)
-    → dotOf (bitsPerDot r) (invertedByte (cursorRowOf r layer frame) (r .cursor .address) c a) j
-    ≡ inverted (hasCursor r frame layer c) ⁅ r .form .crx ⁆ j (dotOf (bitsPerDot r) a j)
+    → dotOf (bitsPerDot (r .gray)) (invertedByte (cursorRowOf r layer frame) (r .cursor .address) c a) j
+    ≡ inverted (hasCursor r frame layer c) ⁅ r .form .crx ⁆ j (dotOf (bitsPerDot (r .gray)) a j)
 unfolding cursorRowOf cursorMask hasCursor inverted codeAddress
-cursor-dots r frame Nothing c a j h low = no-cursor (bitsPerDot r) 0 (r .cursor .address) c a j
+cursor-dots r frame Nothing c a j h low = no-cursor (bitsPerDot (r .gray)) 0 (r .cursor .address) c a j
 cursor-dots r frame (Block block q) c a j h low =
     go (threeLayers (r .system .ws) (r .overlay)) (isText (r .overlay) block) (cursorOn (r .display .fc) frame) (inShape (r .form) (q % ⁅ r .system .fy ⁆)) (text-one-bit r h block)
   where
@@ -232,20 +225,20 @@ cursor-dots r frame (Block block q) c a j h low =
     code : ℕ
     code = sad (r .blocks) block + q / ⁅ r .system .fy ⁆ * r .system .ap + c
 
-    off : dotOf (bitsPerDot r) (invertedByte (cursorRow start 0) (r .cursor .address) c a) j ≡ dotOf (bitsPerDot r) a j
-    off = no-cursor (bitsPerDot r) start (r .cursor .address) c a j
+    off : dotOf (bitsPerDot (r .gray)) (invertedByte (cursorRow start 0) (r .cursor .address) c a) j ≡ dotOf (bitsPerDot (r .gray)) a j
+    off = no-cursor (bitsPerDot (r .gray)) start (r .cursor .address) c a j
 
     hit : r .gray ≡ 0
-        → dotOf (bitsPerDot r) (invertedByte (cursorRow start (firstBits crx)) (r .cursor .address) c a) j
-        ≡ inverted (code % 65536 =? r .cursor .address) crx j (dotOf (bitsPerDot r) a j)
+        → dotOf (bitsPerDot (r .gray)) (invertedByte (cursorRow start (firstBits crx)) (r .cursor .address) c a) j
+        ≡ inverted (code % 65536 =? r .cursor .address) crx j (dotOf (bitsPerDot (r .gray)) a j)
     hit e =
         subst (λ (g : ℕ). dotOf (2 ^ g) (invertedByte (cursorRow start (firstBits crx)) (r .cursor .address) c a) j
         ≡ inverted (code % 65536 =? r .cursor .address) crx j (dotOf (2 ^ g) a j)) (sym e)
         (with-cursor start (r .cursor .address) c a j crx (low e) ∙ ap (λ (x : ℕ). inverted (x =? r .cursor .address) crx j (dotOf 1 a j)) (omega arith))
 
     go : (three text on shape : Bool) → (text ≡ true → r .gray ≡ 0)
-        → dotOf (bitsPerDot r) (invertedByte (cursorRow start (if three then 0 else if text then (if on then (if shape then firstBits crx else 0) else 0) else 0)) (r .cursor .address) c a) j
-        ≡ inverted (not three && text && on && shape && code % 65536 =? r .cursor .address) crx j (dotOf (bitsPerDot r) a j)
+        → dotOf (bitsPerDot (r .gray)) (invertedByte (cursorRow start (if three then 0 else if text then (if on then (if shape then firstBits crx else 0) else 0) else 0)) (r .cursor .address) c a) j
+        ≡ inverted (not three && text && on && shape && code % 65536 =? r .cursor .address) crx j (dotOf (bitsPerDot (r .gray)) a j)
     go true text on shape g = off
     go false false on shape g = off
     go false true false shape g = off
@@ -254,30 +247,13 @@ cursor-dots r frame (Block block q) c a j h low =
 
 -- Columns and rows
 
-column-dot : (r : Registers) (memory font : List ℕ) (frame n c j : ℕ) → Composable r → Place (r .gray) j
-    → dotOf (bitsPerDot r) (columnByte (columnSetup r) (layerSource r (layer1 r n) frame) (layerSource r (layer2 r n) frame) (layerSource r (layer3 r n) frame) (cursorRowOf r (layer1 r n) frame) memory font c) j
+column-dot : (r : Registers) (memory font : List ℕ) (frame n c j p : ℕ) → Composable r → Room (r .gray) p → j < p
+    → dotOf (bitsPerDot (r .gray)) (columnByte (columnSetup r) (layerSource r (layer1 r n) frame) (layerSource r (layer2 r n) frame) (layerSource r (layer3 r n) frame) (cursorRowOf r (layer1 r n) frame) memory font c) j
     ≡ columnDot r memory font frame n c j
 unfolding columnByte columnDot
-column-dot r memory font frame n c j h p =
-    mix-dots (r .overlay .mx) (r .gray) _ _ _ j p
-    ∙ rw (cursor-dots r frame (layer1 r n) c _ j h (p .one), source-layer r memory font frame (layer1 r n) c, source-layer r memory font frame (layer2 r n) c, source-layer r memory font frame (layer3 r n) c)
-
-in-column : (r : Registers) → Composable r → (x : ℕ) → Place (r .gray) (x % perColumn r)
-unfolding dotsPerColumn
-in-column r h x =
-    record {
-      code = h .code;
-      one = λ e. let n = h .narrow in rw e (omega (arith, mod-lt x {m = ⁅ r .system .fx ⁆} (omega arith)));
-      two = λ e. rw e (mod-lt x (omega arith));
-      four = λ e. rw e (mod-lt x (omega arith));
-    }
-
--- the row that the code's columns make is the row of the definition
-pub row-dots : (r : Registers) (memory font : List ℕ) (frame n : ℕ) → Composable r
-    → table (width r) (columnsDot (columnSetup r) (layerSource r (layer1 r n) frame) (layerSource r (layer2 r n) frame) (layerSource r (layer3 r n) frame) (cursorRowOf r (layer1 r n) frame) memory font (perColumn r))
-    ≡ table (width r) (shownDot r memory font frame n)
-unfolding columnsDot shownDot
-row-dots r memory font frame n h = same-table (width r) _ _ (λ x l. column-dot r memory font frame n (x / perColumn r) (x % perColumn r) h (in-column r h x))
+column-dot r memory font frame n c j p h room l =
+    mix-dots (r .overlay .mx) (r .gray) p _ _ _ j room l
+    ∙ rw (cursor-dots r frame (layer1 r n) c _ j h (λ e. let z = room .one e in omega arith), source-layer r memory font frame (layer1 r n) c, source-layer r memory font frame (layer2 r n) c, source-layer r memory font frame (layer3 r n) c)
 
 pub columns-room : (r : Registers) → Composable r → (0 < perColumn r) × Room (r .gray) (perColumn r)
 unfolding dotsPerColumn
@@ -297,13 +273,22 @@ columns-room r h = (
     go (suc (suc zero)) l = omega arith
     go (suc (suc (suc g))) l = absurd (omega arith)
 
+-- the row that the code's columns make is the row of the definition
+pub row-dots : (r : Registers) (memory font : List ℕ) (frame n : ℕ) → Composable r
+    → table (width r) (columnsDot (columnSetup r) (layerSource r (layer1 r n) frame) (layerSource r (layer2 r n) frame) (layerSource r (layer3 r n) frame) (cursorRowOf r (layer1 r n) frame) memory font (perColumn r))
+    ≡ table (width r) (shownDot r memory font frame n)
+unfolding columnsDot shownDot
+row-dots r memory font frame n h =
+    let k = columns-room r h in
+    same-table (width r) _ _ (λ x l. column-dot r memory font frame n (x / perColumn r) (x % perColumn r) (perColumn r) h (k .1) (mod-lt x (k .0)))
+
 -- The whole row: shown, and with D = 0 or asleep
 
 row-when : (r : Registers) (memory font : List ℕ) (frame n : ℕ) {t : Bool} → (r .display .on && not (r .asleep)) ≡ t
     → table (width r) (λ x. if t then shownDot r memory font frame n x else 0) ≡ dots r memory font frame n
-unfolding dots dot shownDot
+unfolding dots dot
 row-when r memory font frame n e =
-    same-table (width r) _ _ (λ x l. sym (ap (λ (b : Bool). if b then columnDot r memory font frame n (x / perColumn r) (x % perColumn r) else 0) e))
+    same-table (width r) _ _ (λ x l. sym (ap (λ (b : Bool). if b then shownDot r memory font frame n x else 0) e))
 
 pub row-shown : (r : Registers) (memory font : List ℕ) (frame n : ℕ) → r .display .on ≡ true → r .asleep ≡ false
     → table (width r) (shownDot r memory font frame n) ≡ dots r memory font frame n

@@ -22,7 +22,7 @@ use Rattle.row.specs.Glyphs.{fetch, glyphByte}
 use Rattle.row.specs.Flashing.{isLit, cursorOn}
 use Rattle.row.specs.Cursor.{inShape}
 use Rattle.row.specs.Mixing.{firstOf}
-use Rattle.row.specs.Dots.{dotOf, perColumn, columnDot}
+use Rattle.row.specs.Dots.{dotOf}
 
 -- the address of row q of a block, or of its text line q
 abbrev pub lineAddress : ℕ → ℕ → ℕ → ℕ
@@ -84,14 +84,16 @@ firstPairs a b c =
 unfoldable pub firstNibbles : ℕ → ℕ → ℕ → ℕ
 firstNibbles a b c = firstOf (a / 16 % 16) (b / 16 % 16) (c / 16 % 16) % 16 * 16 + firstOf (a % 16) (b % 16) (c % 16) % 16
 
+-- the first that isn't 0 of each group of bits at a grey code; at one bit it is the OR
+unfoldable pub firstByte : ℕ → ℕ → ℕ → ℕ → ℕ
+firstByte gray a b c = if gray =? 0 then bitOr (bitOr a b) c else if gray =? 1 then firstPairs a b c else firstNibbles a b c
+
 unfoldable pub mixByte : ℕ → ℕ → ℕ → ℕ → ℕ → ℕ
 mixByte mx gray a b c =
     if mx =? 0 then bitOr (bitOr a b) c
     else if mx =? 1 then bitOr (bitXor a b) c
     else if mx =? 2 then bitOr (bitAnd a b) c
-    else if gray =? 0 then bitOr (bitOr a b) c
-    else if gray =? 1 then firstPairs a b c
-    else firstNibbles a b c
+    else firstByte gray a b c
 
 unfoldable pub columnByte : ColumnSetup → Source → Source → Source → CursorRow → List ℕ → List ℕ → ℕ → ℕ
 columnByte k one two three cursor memory font c =
@@ -102,10 +104,6 @@ columnByte k one two three cursor memory font c =
 unfoldable pub columnsDot : ColumnSetup → Source → Source → Source → CursorRow → List ℕ → List ℕ → ℕ → ℕ → ℕ
 columnsDot k one two three cursor memory font perColumn x =
     dotOf (2 ^ k .gray) (columnByte k one two three cursor memory font (x / perColumn)) (x % perColumn)
-
--- dot x of row n with the display on
-unfoldable pub shownDot : Registers → List ℕ → List ℕ → ℕ → ℕ → ℕ → ℕ
-shownDot r memory font frame n x = columnDot r memory font frame n (x / perColumn r) (x % perColumn r)
 
 -- the first refusal of a row that applies
 unfoldable pub firstRefusal : RowChecks → ℕ

@@ -15,12 +15,12 @@ use Rattle.row.specs.declared.LayerRow.{LayerRow}
 use Rattle.row.specs.declared.LayerRow.the-variants.{Nothing, Block}
 
 -- GRAY SCALE 0, 1, 2 mean 1, 2, 4 bits a dot
-abbrev pub bitsPerDot : Registers → ℕ
-bitsPerDot r = 2 ^ r .gray
+abbrev pub bitsPerDot : ℕ → ℕ
+bitsPerDot gray = 2 ^ gray
 
 -- the dots of a column: [FX], in grey 8 / bits a dot
 unfoldable pub dotsPerColumn : ℕ → Code → ℕ
-dotsPerColumn gray fx = if gray =? 0 then ⁅ fx ⁆ else 8 / 2 ^ gray
+dotsPerColumn gray fx = if gray =? 0 then ⁅ fx ⁆ else 8 / bitsPerDot gray
 
 abbrev pub perColumn : Registers → ℕ
 perColumn r = dotsPerColumn (r .gray) (r .system .fx)
@@ -41,23 +41,27 @@ layerByte r memory font frame (Block block q) c = if isLit (r .display .fp) bloc
 -- dot j of column c of row n, with the cursor in layer 1
 unfoldable pub columnDot : Registers → List ℕ → List ℕ → ℕ → ℕ → ℕ → ℕ → ℕ
 columnDot r memory font frame n c j =
-    let layerDot : LayerRow → ℕ = λ layer. dotOf (bitsPerDot r) (layerByte r memory font frame layer c) j in
+    let layerDot : LayerRow → ℕ = λ layer. dotOf (bitsPerDot (r .gray)) (layerByte r memory font frame layer c) j in
     mix (r .overlay .mx)
     (inverted (hasCursor r frame (layer1 r n) c) ⁅ r .form .crx ⁆ j (layerDot (layer1 r n)))
     (layerDot (layer2 r n))
     (layerDot (layer3 r n))
 
--- dot x of row n: with D = 0 or asleep, 0
+-- dot x of row n with the display on
+unfoldable pub shownDot : Registers → List ℕ → List ℕ → ℕ → ℕ → ℕ → ℕ
+shownDot r memory font frame n x = columnDot r memory font frame n (x / perColumn r) (x % perColumn r)
+
+-- with D = 0 or asleep, all dots are 0
 unfoldable pub dot : Registers → List ℕ → List ℕ → ℕ → ℕ → ℕ → ℕ
 dot r memory font frame n x =
-    if r .display .on && not (r .asleep) then columnDot r memory font frame n (x / perColumn r) (x % perColumn r)
-    else 0
+    if r .display .on && not (r .asleep) then shownDot r memory font frame n x else 0
 
--- f 0, f 1, .., f (n - 1)
+-- f i, f (i + 1), .., n of them
 abbrev pub tableFrom : ℕ → ℕ → (ℕ → ℕ) → List ℕ
 tableFrom i zero f = []
 tableFrom i (suc n) f = f i ∷ tableFrom (suc i) n f
 
+-- f 0, f 1, .., f (n - 1)
 unfoldable pub table : ℕ → (ℕ → ℕ) → List ℕ
 table n f = tableFrom 0 n f
 

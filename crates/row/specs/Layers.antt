@@ -17,9 +17,13 @@ isText o block = if block =? 1 then not (o .dm1) else if block =? 3 then not (o 
 unfoldable pub sad : Blocks → ℕ → ℕ
 sad b block = if block =? 1 then b .sad1 else if block =? 2 then b .sad2 else if block =? 3 then b .sad3 else b .sad4
 
+-- DM = 11
+abbrev pub dm11 : Overlay → Bool
+dm11 o = o .dm2 && o .dm1
+
 -- W/S = 0, OV = 1, DM = 11
 unfoldable pub threeLayers : Bool → Overlay → Bool
-threeLayers ws o = not ws && o .ov && o .dm1 && o .dm2
+threeLayers ws o = not ws && o .ov && dm11 o
 
 -- a block for rows below [SL], then block 3
 unfoldable pub split : ℕ → Code → ℕ → LayerRow

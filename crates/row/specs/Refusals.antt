@@ -9,11 +9,8 @@ use Rattle.registers.specs.declared.Registers.{Registers}
 use Rattle.registers.specs.Choice.{if_then_else_, _<?_, _≤?_, _=?_}
 use Rattle.registers.specs.Counts.{⁅_⁆}
 use Rattle.registers.specs.Sizes.{memorySize, fontSize}
-use Rattle.row.specs.Layers.{threeLayers}
+use Rattle.row.specs.Layers.{dm11, threeLayers}
 use Rattle.row.specs.Dots.{width}
-
-abbrev pub dm11 : Overlay → Bool
-dm11 o = o .dm2 && o .dm1
 
 -- 9: grey set and (DM not 11 or [FX] not 8)
 unfoldable pub grayUnfit : ℕ → Overlay → Code → Bool

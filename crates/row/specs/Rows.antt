@@ -39,5 +39,5 @@ rowOutcome registers memory font frame n buffer =
     record { refusal = a .refusal; buffer = if a .refusal =? 0 then a .dots else buffer }
 
 -- the outcome that the code's answer stands for, with the buffer as it leaves it
-abbrev pub rowReply : Answer → List ℕ → RowOutcome
-rowReply a buffer = record { refusal = reply a .refusal; buffer = buffer }
+abbrev pub composedOutcome : Answer → List ℕ → RowOutcome
+composedOutcome a buffer = record { refusal = reply a .refusal; buffer = buffer }

@@ -42,8 +42,8 @@ pub fn three_layers(ws: bool, o: Overlay) -> bool
         return false;
     }
     if o.ov {
-        if o.dm1 {
-            return o.dm2;
+        if o.dm2 {
+            return o.dm1;
         }
     }
     false

@@ -10,10 +10,9 @@ mod rows;
 mod sources;
 mod spreading;
 
+use registers::Count;
 pub use rows::compose;
 pub use rows::frame_size;
-
-use registers::Count;
 
 // What a layer shows on a row: nothing, or a row of a block, counted from the block's first.
 pub enum LayerRow {
@@ -35,7 +34,7 @@ pub enum Source {
     Text(u16, u16),
 }
 
-// The cursor on a row: the address of the row's first code, and the bits that it inverts in the byte of its own.
+// The cursor on a row: the address of the row's first code, and the bits that it inverts in its cell.
 pub struct CursorRow {
     pub start: u16,
     pub mask: u8,

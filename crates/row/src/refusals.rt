@@ -31,7 +31,7 @@ pub fn dots_per_column(gray: u8, fx: Code) -> u16
     2
 }
 
-// The dots of all columns.
+// How many dots all columns have.
 pub fn columns_width(cr: Code, per: u16) -> usize
     ensures { λ w. ⌜ w ≡ ⁅ cr ⁆ * per ⌝ }
 {

@@ -14,10 +14,9 @@ use registers::Answer;
 use registers::Registers;
 ghost use mathlib.Core.Path.{_≡_};
 ghost use lib.ListN.{length};
-ghost use Rattle.registers.specs.Refusals.{reply};
-ghost use Rattle.row.specs.Dots.{width, table, dots};
-ghost use Rattle.row.specs.Rows.{frameSize, rowOutcome, rowReply};
-ghost use Rattle.row.specs.Columns.{Composable, shownDot};
+ghost use Rattle.row.specs.Dots.{width, table, shownDot, dots};
+ghost use Rattle.row.specs.Rows.{frameSize, rowOutcome, composedOutcome};
+ghost use Rattle.row.specs.Columns.{Composable};
 
 // A row of zeros.
 fn clear(out: &mut [u8])
@@ -102,7 +101,7 @@ pub fn compose(
     n: u32,
     out: &mut [u8],
 ) -> Answer
-    ensures { λ a. ⌜ rowReply a (now (out .exit)) ≡ rowOutcome registers (now (memory .entry)) (now (font .entry)) frame n (now (out .entry)) ⌝ }
+    ensures { λ a. ⌜ composedOutcome a (now (out .exit)) ≡ rowOutcome registers (now (memory .entry)) (now (font .entry)) frame n (now (out .entry)) ⌝ }
 {
     let r = registers.in_layout();
     let answer = row_answer(r, memory.len(), font.len(), n, out.len());

@@ -9,7 +9,6 @@ use crate::layers::is_text;
 use crate::layers::sad;
 use registers::Code;
 use registers::Registers;
-ghost use Prim.Native.Nat.{_+_, _*_, _%_};
 ghost use mathlib.Core.Path.{_≡_};
 ghost use Rattle.row.specs.Columns.{lineAddress, blockSource, layerSource, sourceByte};
 

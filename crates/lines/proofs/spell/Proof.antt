@@ -46,13 +46,14 @@ loop-less c = omega arith
 loop-again : tie.Need-loop-again Inv-loop μ-loop
 loop-again c =
     let l = c .before .before .before .loop in
-    let v = c .hex-digit .result in
-    (omega arith,
-    simp length-set (l .inv .1),
-    below-more _ (l .i)
-    (λ k lt. getD-set-other (l .row) (l .i) k v 0 (λ q. let z : k ≡ l .i = q in omega arith) ∙ l .inv .2 k lt)
-    (getD-set-same (l .row) (l .i) v 0 (omega arith) ∙ c .hex-digit .ensures ∙ ap hexDigit (l .inv .3 (l .i) (omega arith))),
-    λ k h. getD-set-other (l .row) (l .i) k v 0 (λ q. let z : k ≡ l .i = q in omega arith) ∙ l .inv .3 k (omega arith))
+    let v = c .hex-digit .result in (
+      omega arith,
+      simp length-set (l .inv .1),
+      below-more _ (l .i)
+          (λ k lt. getD-set-other (l .row) (l .i) k v 0 (λ q. let z : k ≡ l .i = q in omega arith) ∙ l .inv .2 k lt)
+          (getD-set-same (l .row) (l .i) v 0 (omega arith) ∙ c .hex-digit .ensures ∙ ap hexDigit (l .inv .3 (l .i) (omega arith))),
+      λ k h. getD-set-other (l .row) (l .i) k v 0 (λ q. let z : k ≡ l .i = q in omega arith) ∙ l .inv .3 k (omega arith),
+    )
 
 same-length : tie.Need-same-length Inv-loop μ-loop
 same-length c = c .before .loop .inv .1

@@ -1,11 +1,11 @@
 use borrow.Author.Tests.{eq-eqb, ne-eqb}
-use Rattle.row.specs.Columns.{mixByte}
+use Rattle.row.specs.Columns.{firstByte, mixByte}
 use borrow.Author.Needs.{needs}
 use Rattle.row.proofs.mixing.mix_byte.Statement.{statement}
 use Rattle.row.proofs.mixing.mix_byte.Tie as tie
 
 pub mix-byte-spec : {M : Type 1} → statement M
-unfolding mixByte
+unfolding mixByte firstByte
 mix-byte-spec =
     tie.close
     (tie.spec

@@ -1,6 +1,8 @@
 // Records of a bus file: payload length and kind, two bytes each, and the payload; little-endian.
+mod reading;
 mod records;
 
+pub use reading::found_at;
 pub use records::double_word;
 pub use records::part;
 pub use records::record_at;
@@ -31,4 +33,10 @@ pub enum Found {
 pub enum Shape {
     Good(Kind),
     Wrong,
+}
+
+// A bus file and a place in it: the reader shows each payload as the part of the lent bytes that it is.
+pub struct Reader<'a> {
+    pub bytes: &'a [u8],
+    pub at: usize,
 }

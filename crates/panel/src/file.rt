@@ -11,6 +11,8 @@ use busfile::Found;
 use busfile::Kind;
 use libc::STDIN_FILENO;
 use model::Controller;
+ghost use mathlib.Core.Path.{_≡_};
+ghost use lib.ListN.{length};
 
 // The longest record: with so many bytes from a place on, what stands there is known.
 const LONGEST: usize = 65536;
@@ -22,6 +24,31 @@ pub struct Progress {
     pub ended: bool,
     pub records: u64,
     pub going: bool,
+}
+
+// Buffers: display memory as it starts, a font and a byte more, two records, and the widest row.
+pub fn display_memory() -> [u8; 32768]
+    ensures { λ r. ⌜ 32768 ≡ length r ⌝ }
+{
+    [0; 32768]
+}
+
+pub fn font_buffer() -> [u8; 1281]
+    ensures { λ r. ⌜ 1281 ≡ length r ⌝ }
+{
+    [0; 1281]
+}
+
+pub fn input_buffer() -> [u8; 131072]
+    ensures { λ r. ⌜ 131072 ≡ length r ⌝ }
+{
+    [0; 131072]
+}
+
+pub fn row_buffer() -> [u8; 640]
+    ensures { λ r. ⌜ 640 ≡ length r ⌝ }
+{
+    [0; 640]
 }
 
 // The font file's bytes. One that cannot be read counts as empty.
@@ -50,6 +77,19 @@ fn shift(input: &mut [u8], at: usize, filled: usize) -> usize {
     to
 }
 
+// Reads behind the first bytes until the input is full or ends, and answers how many bytes it then has.
+fn read_on(input: &mut [u8], kept: usize) -> usize {
+    if input.len() <= kept {
+        return kept;
+    }
+    let more = io::read_full(STDIN_FILENO, &mut input[kept..]);
+    let room = input.len() - kept;
+    if more < room {
+        return kept + more;
+    }
+    input.len()
+}
+
 // Reads on where the next record may not be whole.
 fn fill(p: Progress, input: &mut [u8]) -> Progress {
     if p.ended {
@@ -63,22 +103,11 @@ fn fill(p: Progress, input: &mut [u8]) -> Progress {
         }
     }
     let kept = shift(input, at, filled);
-    let mut more: usize = 0;
-    if kept < input.len() {
-        more = io::read_full(STDIN_FILENO, &mut input[kept..]);
-    }
-    let mut ended = true;
-    let mut total = kept;
-    if kept <= input.len() {
-        if more <= input.len() - kept {
-            total = kept + more;
-            ended = total < input.len();
-        }
-    }
+    let total = read_on(input, kept);
     Progress {
         at: 0,
         filled: total,
-        ended: ended,
+        ended: total < input.len(),
         records: p.records,
         going: p.going,
     }
@@ -168,8 +197,35 @@ pub struct Step {
     pub session: Session,
 }
 
-// All records, and the line that ends the output. The loop counts its turns down from a number that no run uses up.
-pub fn run_file(memory: &mut [u8], font: &[u8], input: &mut [u8], out: &mut [u8], row: &mut [u8]) {
+// Reads on, and carries the next record out. A closed output stops it.
+fn turn(
+    p: Progress,
+    s: Session,
+    memory: &mut [u8],
+    font: &[u8],
+    input: &mut [u8],
+    out: &mut [u8],
+    row: &mut [u8],
+) -> Step {
+    let o = s.output;
+    if !o.open {
+        return Step {
+            progress: p.stopped(),
+            session: s,
+        };
+    }
+    let filled = fill(p, input);
+    run_next(filled, s, memory, font, input, out, row)
+}
+
+// All records. The loop counts its turns down from a number that no run uses up.
+fn run_records(
+    memory: &mut [u8],
+    font: &[u8],
+    input: &mut [u8],
+    out: &mut [u8],
+    row: &mut [u8],
+) -> Step {
     let mut progress = Progress {
         at: 0,
         filled: 0,
@@ -186,18 +242,28 @@ pub fn run_file(memory: &mut [u8], font: &[u8], input: &mut [u8], out: &mut [u8]
     };
     let mut turns = u64::MAX;
     while turns > 0 {
-        if !progress.going {
-            break;
-        }
-        if !session.output.open {
-            break;
-        }
-        progress = fill(progress, input);
-        let next = run_next(progress, session, memory, font, input, out, row);
+        turns -= 1;
+        let next = turn(progress, session, memory, font, input, out, row);
         progress = next.progress;
         session = next.session;
-        turns -= 1;
+        if !progress.going {
+            return Step {
+                progress: progress,
+                session: session,
+            };
+        }
     }
+    Step {
+        progress: progress,
+        session: session,
+    }
+}
+
+// All records, and the line that ends the output.
+pub fn run_file(memory: &mut [u8], font: &[u8], input: &mut [u8], out: &mut [u8], row: &mut [u8]) {
+    let last = run_records(memory, font, input, out, row);
+    let session = last.session;
+    let progress = last.progress;
     let o = put_end(session.output, out, progress.records);
     flush(o, out);
 }

@@ -12,15 +12,17 @@ pub struct Output {
 // Writes out what the buffer holds.
 pub fn flush(o: Output, out: &[u8]) -> Output {
     let used = o.used;
-    let mut open = false;
     if o.open {
         if used <= out.len() {
-            open = io::write_all(STDOUT_FILENO, &out[..used]);
+            return Output {
+                used: 0,
+                open: io::write_all(STDOUT_FILENO, &out[..used]),
+            };
         }
     }
     Output {
         used: 0,
-        open: open,
+        open: false,
     }
 }
 

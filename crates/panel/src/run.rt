@@ -5,12 +5,23 @@ use crate::output::put_frame;
 use crate::output::put_read;
 use crate::output::put_row;
 use model::Controller;
+use model::Written;
 use registers::Answer;
 
 // The controller, and what was printed.
 pub struct Session {
     pub controller: Controller,
     pub output: Output,
+}
+
+// What a write left, and its line.
+fn answered(w: Written, o: Output, out: &mut [u8], record: u64, byte: u64) -> Session {
+    let controller = w.controller;
+    let answer = w.answer;
+    Session {
+        controller: controller,
+        output: put_answer(o, out, answer, record, byte),
+    }
 }
 
 // One byte of a kind 1 record: the first is a command, the others are data.
@@ -22,16 +33,14 @@ fn run_byte(
     record: u64,
     byte: u64,
 ) -> Session {
-    let written = if byte == 1 {
-        s.controller.command_write(b)
-    } else {
-        s.controller.data_write(memory, b)
-    };
-    let answer = written.answer;
-    Session {
-        controller: written.controller,
-        output: put_answer(s.output, out, answer, record, byte),
+    let controller = s.controller;
+    let o = s.output;
+    if byte == 1 {
+        let written = controller.command_write(b);
+        return answered(written, o, out, record, byte);
     }
+    let written = controller.data_write(memory, b);
+    answered(written, o, out, record, byte)
 }
 
 // A command byte, then its data writes.
@@ -53,11 +62,14 @@ pub fn run_bus(
 }
 
 fn run_read(s: Session, memory: &[u8], out: &mut [u8], record: u64, index: u64) -> Session {
-    let read = s.controller.data_read(memory);
+    let controller = s.controller;
+    let o = s.output;
+    let read = controller.data_read(memory);
+    let controller = read.controller;
     let answer = read.answer;
     Session {
-        controller: read.controller,
-        output: put_read(s.output, out, answer, record, index),
+        controller: controller,
+        output: put_read(o, out, answer, record, index),
     }
 }
 

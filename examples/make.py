@@ -1,0 +1,83 @@
+#!/usr/bin/env python3
+"""Makes the example bus files and their font, in this folder.
+
+page.bus    a text page over a graphics frame, with a message strip in the third screen block
+gray.bus    a picture of four shades: a gradient behind a box that has priority over it
+worked.bus  the worked example of the rules: two rows of graphics, and a byte that is no command
+"""
+import os
+import struct
+
+GLYPHS = {  # 5 x 7, a number a row
+    "A": "0E 11 11 1F 11 11 11", "B": "1E 11 11 1E 11 11 1E", "D": "1E 11 11 11 11 11 1E",
+    "E": "1F 10 10 1E 10 10 1F", "G": "0E 11 10 17 11 11 0E", "H": "11 11 11 1F 11 11 11",
+    "I": "0E 04 04 04 04 04 0E", "J": "07 02 02 02 02 12 0C", "K": "11 12 14 18 14 12 11",
+    "L": "10 10 10 10 10 10 1F", "N": "11 19 19 15 13 13 11", "O": "0E 11 11 11 11 11 0E",
+    "S": "0F 10 10 0E 01 01 1E", "T": "1F 04 04 04 04 04 04", "Y": "11 11 0A 04 04 04 04",
+    "1": "04 0C 04 04 04 04 0E", "4": "02 06 0A 12 1F 02 02", "7": "1F 01 02 04 08 08 08",
+}
+
+
+def font():
+    made = bytearray(1280)
+    for letter, rows in GLYPHS.items():
+        at = (ord(letter) - 0x20) * 8
+        made[at:at + 7] = bytes(row << 3 for row in bytes.fromhex(rows))
+    return bytes(made)
+
+
+def record(kind, payload):
+    return struct.pack("<HH", len(payload), kind) + payload
+
+
+def bus(*numbers):
+    return record(1, bytes(numbers))
+
+
+def show(frame):
+    return record(3, struct.pack("<I", frame))
+
+
+def write(address, data):
+    return bus(0x46, address & 255, address >> 8) + bus(0x42, *data)
+
+
+def page():
+    width, rows = 10, 24
+    made = bus(0x40, 0x10, 7, 7, width - 1, width + 3, rows - 1, width, 0)  # 80 x 24 dots, 8 x 8 characters
+    made += bus(0x44, 0, 0, 15, 0x00, 0x02, 23, 0x00, 0x01, 0, 0)  # block 1: 16 rows, then block 3; block 2 below
+    made += bus(0x5B, 0x00) + bus(0x59, 0x54)  # blocks 1 and 3 text, OR, all steady
+    made += write(0x0000, b"NIGHT DESK") + write(0x000A, b" JOB 17   ")
+    made += write(0x0100, b" TO BAY 4 ")
+    edge = [0xFF] * width
+    side = [0x80] + [0] * (width - 2) + [0x01]
+    made += write(0x0200, edge + side * (rows - 2) + edge)
+    return made + show(0)
+
+
+def gray():
+    made = bus(0x40, 0x10, 7, 7, 7, 11, 7, 8, 0)  # 8 columns, at 2 bits 32 x 8 dots
+    made += bus(0x44, 0, 0, 7, 0x00, 0x01, 7, 0x00, 0x02, 0, 0)
+    made += bus(0x5B, 0x1F) + bus(0x60, 1) + bus(0x59, 0x54)  # three layers of graphics, priority, 2 bits a dot
+    box = [[0] * 8 for _ in range(8)]
+    for row in range(2, 6):
+        box[row][3:5] = [0xFF, 0xFF]
+    made += write(0x0000, sum(box, []))
+    made += write(0x0100, [0x00, 0x00, 0x55, 0x55, 0xAA, 0xAA, 0xFF, 0xFF] * 8)
+    return made + show(0)
+
+
+def worked():
+    made = bus(0x40, 0x10, 7, 7, 0, 4, 1, 1, 0) + bus(0x44, 0, 0, 1, 0x10, 0, 1) + bus(0x5B, 0x0D) + bus(0x59, 0x14)
+    made += bus(0x46, 0, 0) + bus(0x42, 0xA5, 0x3C) + bus(0x46, 0x10, 0) + bus(0x42, 0xFF)
+    return made + show(0) + bus(0xFF)
+
+
+def main():
+    here = os.path.dirname(os.path.abspath(__file__))
+    for name, data in (("font.bin", font()), ("page.bus", page()), ("gray.bus", gray()), ("worked.bus", worked())):
+        with open(os.path.join(here, name), "wb") as file:
+            file.write(data)
+
+
+main()

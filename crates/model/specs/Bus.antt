@@ -37,6 +37,7 @@ sized m = length (m .memory) =? memorySize
 abbrev pub accessed : Controller → Controller
 accessed c = controller (moveCursor (c .registers)) (c .pending .command) (c .pending .place)
 
+-- below 8000h, where memory ends
 abbrev pub inside : Machine → Bool
 inside m = m .controller .registers .cursor .address <? length (m .memory)
 

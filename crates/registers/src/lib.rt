@@ -28,7 +28,7 @@ impl Code {
     }
 }
 
-// The rows of the command table, or none of them.
+// A command of the command table, or none.
 pub enum Command {
     None,
     SystemSet,

@@ -14,7 +14,7 @@ ghost use mathlib.Core.Path.{_≡_};
 ghost use Rattle.registers.specs.Parameters.{store, begin, directionOf, allowed, resetRegisters};
 
 impl Direction {
-    // The direction of a byte from 4C to 4F.
+    // The direction of a byte from 4C to 4F; any other counts as the last.
     pub fn of(b: u8) -> Direction
         ensures { λ r. ⌜ r ≡ directionOf b ⌝ }
     {

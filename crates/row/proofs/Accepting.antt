@@ -68,7 +68,7 @@ accepted r code memory font n buffer e =
     record {
       below = leb-false ⁅ r .system .lf ⁆ n (p16 .0);
       whole = eqb-true buffer (width r) (not-false (buffer =? width r) (p17 .0));
-      composable = record { code = code; narrow = ltb-false 8 ⁅ r .system .fx ⁆ (p10 .0); graphics = gray-graphics r (p9 .0) };
+      composable = record { code = code; narrow = ltb-false 8 ⁅ r .system .fx ⁆ (p10 .0); graphics = gray-graphics r (p9 .0); order = p14 .0 };
     }
 
 -- the outcome of an accepted row, and of a refused one

@@ -23,6 +23,7 @@ use Rattle.row.specs.Flashing.{isLit, cursorOn}
 use Rattle.row.specs.Cursor.{inShape}
 use Rattle.row.specs.Mixing.{firstOf}
 use Rattle.row.specs.Dots.{dotOf}
+use Rattle.row.specs.Refusals.{orderUnfit}
 
 -- the address of row q of a block, or of its text line q
 abbrev pub lineAddress : ℕ → ℕ → ℕ → ℕ
@@ -45,6 +46,12 @@ layerSource r (Block block q) frame =
 abbrev pub columnSetup : Registers → ColumnSetup
 columnSetup r =
     record { m0 = r .system .m0; m2 = r .system .m2; cgram = r .cgram; mx = r .overlay .mx; gray = r .gray; cursor = r .cursor .address }
+
+-- a byte of a layer without text
+unfoldable pub graphicsByte : Source → List ℕ → ℕ → ℕ
+graphicsByte Blank memory c = 0
+graphicsByte (Graphics start) memory c = fetch memory (start + c)
+graphicsByte (Text start row) memory c = 0
 
 unfoldable pub sourceByte : ColumnSetup → Source → List ℕ → List ℕ → ℕ → ℕ
 sourceByte k Blank memory font c = 0
@@ -98,7 +105,7 @@ mixByte mx gray a b c =
 unfoldable pub columnByte : ColumnSetup → Source → Source → Source → CursorRow → List ℕ → List ℕ → ℕ → ℕ
 columnByte k one two three cursor memory font c =
     mixByte (k .mx) (k .gray) (invertedByte cursor (k .cursor) c (sourceByte k one memory font c))
-    (sourceByte k two memory font c) (sourceByte k three memory font c)
+    (graphicsByte two memory c) (graphicsByte three memory c)
 
 -- dot x of a row of such bytes
 unfoldable pub columnsDot : ColumnSetup → Source → Source → Source → CursorRow → List ℕ → List ℕ → ℕ → ℕ → ℕ
@@ -128,8 +135,9 @@ pub record Room (gray n : ℕ) : Type 0 where
   pub two : gray ≡ 1 → n ≡ 4
   pub four : gray ≡ 2 → n ≡ 2
 
--- what the refusals leave: grey with DM = 11 alone, and at most 8 dots a column
+-- what the refusals leave: grey with DM = 11 alone, at most 8 dots a column, and text in layer 1 alone
 pub record Composable (r : Registers) : Type 0 where
   pub code : r .gray < 3
   pub narrow : ⁅ r .system .fx ⁆ ≤ 8
   pub graphics : (r .gray ≡ 0 → ⊥) → (r .overlay .dm1 ≡ true) × (r .overlay .dm2 ≡ true)
+  pub order : orderUnfit (r .system .ws) (r .overlay) (r .blocks) ≡ false

@@ -3,6 +3,7 @@ use crate::ColumnSetup;
 use crate::CursorRow;
 use crate::Source;
 use crate::mixing::mix_byte;
+use crate::sources::graphics_byte;
 use crate::sources::source_byte;
 use crate::spreading::spread;
 ghost use Prim.Native.Nat.{_*_, _<_};
@@ -21,7 +22,7 @@ fn invert(k: CursorRow, cursor: u16, c: u16, a: u8) -> u8
     a
 }
 
-// The mixed byte of column c.
+// The mixed byte of column c. Layer 1 alone may be text.
 fn column(
     k: ColumnSetup,
     one: Source,
@@ -35,8 +36,8 @@ fn column(
     ensures { λ r. ⌜ r ≡ columnByte k one two three cursor (now (memory .entry)) (now (font .entry)) c ⌝ }
 {
     let a = invert(cursor, k.cursor, c, source_byte(k, one, memory, font, c));
-    let b = source_byte(k, two, memory, font, c);
-    let d = source_byte(k, three, memory, font, c);
+    let b = graphics_byte(two, memory, c);
+    let d = graphics_byte(three, memory, c);
     mix_byte(k.mx, k.gray, a, b, d)
 }
 

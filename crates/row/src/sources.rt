@@ -10,7 +10,7 @@ use crate::layers::sad;
 use registers::Code;
 use registers::Registers;
 ghost use mathlib.Core.Path.{_≡_};
-ghost use Rattle.row.specs.Columns.{lineAddress, blockSource, layerSource, sourceByte};
+ghost use Rattle.row.specs.Columns.{lineAddress, blockSource, layerSource, graphicsByte, sourceByte};
 
 // The address of row q of a block, or of its text line q.
 pub fn line_address(start: u16, pitch: u16, q: u16) -> u16
@@ -50,6 +50,17 @@ pub fn layer_source(r: Registers, layer: LayerRow, frame: u32) -> Source
             }
             Source::Blank
         }
+    }
+}
+
+// The byte of a source at column c in a layer without text.
+pub fn graphics_byte(from: Source, memory: &[u8], c: u16) -> u8
+    ensures { λ r. ⌜ r ≡ graphicsByte from (now (memory .entry)) c ⌝ }
+{
+    match from {
+        Source::Blank => 0,
+        Source::Graphics(start) => fetch(memory, std::num::wrapping_add_u16(start, c)),
+        Source::Text(_, _) => 0,
     }
 }
 

@@ -13,4 +13,4 @@ column-spec =
     (λ c κs. search needs)
     (λ c κs. search needs)
     (λ c κs. search needs)
-    (λ c. let p = c .before .before .before in let q = p .before in simp (q .source-byte .ensures, p .invert .ensures, c .before .before .source-byte2 .ensures, c .before .source-byte3 .ensures, c .mix-byte .ensures)))
+    (λ c. let p = c .before .before .before in let q = p .before in simp (q .source-byte .ensures, p .invert .ensures, c .before .before .graphics-byte .ensures, c .before .graphics-byte2 .ensures, c .mix-byte .ensures)))

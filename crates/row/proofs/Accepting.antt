@@ -10,6 +10,7 @@ use borrow.Author.Tests.{ltb-true, ltb-false, leb-false, eqb-true, not-false, ne
 use Rattle.registers.specs.declared.Answer.the-variants.{Accepted, Refused}
 use Rattle.registers.specs.declared.Answer.{Answer}
 use Rattle.registers.specs.declared.Refusal.{Refusal}
+use Rattle.registers.specs.declared.Refusal.the-variants.{MemorySize, FontSize}
 use Rattle.registers.specs.declared.Registers.{Registers}
 use Rattle.registers.specs.Choice.{if_then_else_, _<?_, _≤?_, _=?_}
 use Rattle.registers.specs.Counts.{⁅_⁆}
@@ -71,16 +72,26 @@ accepted r code memory font n buffer e =
       composable = record { code = code; narrow = ltb-false 8 ⁅ r .system .fx ⁆ (p10 .0); graphics = gray-graphics r (p9 .0); order = p14 .0 };
     }
 
--- the outcome of an accepted row, and of a refused one
+-- the outcome of a row with a memory or a font of another size, of an accepted row, and of a refused one
 
-pub outcome-accepted : (registers : Registers) (memory font : List ℕ) (frame n : ℕ) (out : List ℕ) {drawn : List ℕ}
-    → rowRefusal (inLayout registers) (length memory) (length font) n (length out) ≡ 0 → drawn ≡ dots (inLayout registers) memory font frame n
+pub outcome-memory-size : (registers : Registers) (memory font : List ℕ) (frame n : ℕ) (out : List ℕ) → (length memory ≡ memorySize → ⊥)
+    → composedOutcome (Refused MemorySize) out ≡ rowOutcome registers memory font frame n out
+unfolding rowOutcome rowAnswer rowRefusal
+outcome-memory-size registers memory font frame n out e = rw (ne-eqb (length memory) memorySize e)
+
+pub outcome-font-size : (registers : Registers) (memory font : List ℕ) (frame n : ℕ) (out : List ℕ) → length memory ≡ memorySize
+    → (length font ≡ fontSize → ⊥) → composedOutcome (Refused FontSize) out ≡ rowOutcome registers memory font frame n out
+unfolding rowOutcome rowAnswer rowRefusal
+outcome-font-size registers memory font frame n out m e = rw (m, ne-eqb (length font) fontSize e)
+
+pub outcome-accepted : (registers : Registers) (memory font : List ℕ) (frame n : ℕ) (out : List ℕ) {drawn : List ℕ} → length memory ≡ memorySize → length font ≡ fontSize
+    → rowRefusal (inLayout registers) memorySize fontSize n (length out) ≡ 0 → drawn ≡ dots (inLayout registers) memory font frame n
     → composedOutcome Accepted drawn ≡ rowOutcome registers memory font frame n out
 unfolding rowOutcome rowAnswer
-outcome-accepted registers memory font frame n out e d = rw (e, d)
+outcome-accepted registers memory font frame n out m f e d = rw (m, f, e, d)
 
-pub outcome-refused : (registers : Registers) (memory font : List ℕ) (frame n : ℕ) (out : List ℕ) (a : Answer) {refusal : Refusal}
-    → a ≡ Refused refusal → reply a .refusal ≡ rowRefusal (inLayout registers) (length memory) (length font) n (length out)
+pub outcome-refused : (registers : Registers) (memory font : List ℕ) (frame n : ℕ) (out : List ℕ) (a : Answer) {refusal : Refusal} → length memory ≡ memorySize → length font ≡ fontSize
+    → a ≡ Refused refusal → reply a .refusal ≡ rowRefusal (inLayout registers) memorySize fontSize n (length out)
     → composedOutcome (Refused refusal) out ≡ rowOutcome registers memory font frame n out
 unfolding rowOutcome rowAnswer
-outcome-refused registers memory font frame n out a {refusal} r e = rw (← e, r, ne-eqb (number refusal) 0 (number-not-0 refusal))
+outcome-refused registers memory font frame n out a {refusal} m f r e = rw (m, f, ← e, r, ne-eqb (number refusal) 0 (number-not-0 refusal))

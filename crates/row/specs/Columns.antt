@@ -112,12 +112,10 @@ unfoldable pub columnsDot : ColumnSetup → Source → Source → Source → Cur
 columnsDot k one two three cursor memory font perColumn x =
     dotOf (2 ^ k .gray) (columnByte k one two three cursor memory font (x / perColumn)) (x % perColumn)
 
--- the first refusal of a row that applies
+-- the first refusal of a row that applies, once memory and font have their sizes
 unfoldable pub firstRefusal : RowChecks → ℕ
 firstRefusal k =
-    if k .«memory_size» then 1
-    else if k .«font_size» then 8
-    else if k .«gray_mode» then 9
+    if k .«gray_mode» then 9
     else if k .«character_width» then 10
     else if k .«row_width» then 11
     else if k .«odd_lines» then 12

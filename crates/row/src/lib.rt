@@ -56,10 +56,8 @@ pub struct FrameSize {
     pub rows: Count,
 }
 
-// Which refusals of a row apply.
+// Which refusals of a row apply, once memory and font have their sizes.
 pub struct RowChecks {
-    pub memory_size: bool,
-    pub font_size: bool,
     pub gray_mode: bool,
     pub character_width: bool,
     pub row_width: bool,

@@ -5,14 +5,13 @@ use registers::Answer;
 use registers::Blocks;
 use registers::Code;
 use registers::CursorForm;
-use registers::FONT_SIZE;
-use registers::MEMORY_SIZE;
 use registers::Overlay;
 use registers::Refusal;
 use registers::Registers;
 ghost use Prim.Native.Nat.{_*_, _<_};
 ghost use mathlib.Core.Path.{_≡_};
 ghost use Rattle.registers.specs.Refusals.{reply};
+ghost use Rattle.registers.specs.Sizes.{memorySize, fontSize};
 ghost use Rattle.registers.specs.Counts.{⁅_⁆};
 ghost use Rattle.row.specs.Columns.{firstRefusal};
 ghost use Rattle.row.specs.Dots.{dotsPerColumn};
@@ -97,12 +96,6 @@ impl RowChecks {
     fn answer(self) -> Answer
         ensures { λ a. ⌜ reply a .refusal ≡ firstRefusal self ⌝ }
     {
-        if self.memory_size {
-            return Answer::Refused(Refusal::MemorySize);
-        }
-        if self.font_size {
-            return Answer::Refused(Refusal::FontSize);
-        }
         if self.gray_mode {
             return Answer::Refused(Refusal::GrayMode);
         }
@@ -134,17 +127,15 @@ impl RowChecks {
     }
 }
 
-// The answer to row n, by the lengths of memory, font and buffer. An accepted row number fits 16 bits.
-pub fn row_answer(r: Registers, memory: usize, font: usize, n: u32, buffer: usize) -> Answer
+// The answer to row n in a buffer of a length, with memory and font of their sizes. An accepted row number fits 16 bits.
+pub fn row_answer(r: Registers, n: u32, buffer: usize) -> Answer
     requires { ⌜ r .gray < 3 ⌝ }
-    ensures { λ a. ⌜ reply a .refusal ≡ rowRefusal r memory font n buffer ⌝ }
+    ensures { λ a. ⌜ reply a .refusal ≡ rowRefusal r memorySize fontSize n buffer ⌝ }
     ensures { λ a. ⌜ (reply a .refusal ≡ 0 → n < 65536) ⌝ }
 {
     let s = r.system;
     let width = columns_width(s.cr, dots_per_column(r.gray, s.fx));
     let checks = RowChecks {
-        memory_size: memory != MEMORY_SIZE,
-        font_size: font != FONT_SIZE,
         gray_mode: gray_unfit(r.gray, r.overlay, s.fx),
         character_width: 8 < s.fx.count().0,
         row_width: 640 < width,

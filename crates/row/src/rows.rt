@@ -11,6 +11,9 @@ use crate::refusals::dots_per_column;
 use crate::refusals::row_answer;
 use crate::sources::layer_source;
 use registers::Answer;
+use registers::FONT_SIZE;
+use registers::MEMORY_SIZE;
+use registers::Refusal;
 use registers::Registers;
 ghost use mathlib.Core.Path.{_≡_};
 ghost use lib.ListN.{length};
@@ -92,7 +95,8 @@ pub fn frame_size(registers: Registers) -> FrameSize
     }
 }
 
-// Row n of a frame into a buffer of a byte a dot, which stands where the row is refused.
+// Row n of a frame into a buffer of a byte a dot, which stands where the row is refused. The sizes of memory and font are tested here, so
+// that the compiler knows them in the columns' loop.
 pub fn compose(
     registers: Registers,
     memory: &[u8],
@@ -103,8 +107,14 @@ pub fn compose(
 ) -> Answer
     ensures { λ a. ⌜ composedOutcome a (now (out .exit)) ≡ rowOutcome registers (now (memory .entry)) (now (font .entry)) frame n (now (out .entry)) ⌝ }
 {
+    if memory.len() != MEMORY_SIZE {
+        return Answer::Refused(Refusal::MemorySize);
+    }
+    if font.len() != FONT_SIZE {
+        return Answer::Refused(Refusal::FontSize);
+    }
     let r = registers.in_layout();
-    let answer = row_answer(r, memory.len(), font.len(), n, out.len());
+    let answer = row_answer(r, n, out.len());
     match answer {
         Answer::Accepted => {
             draw(r, memory, font, frame, n as u16, out);

@@ -1,4 +1,5 @@
 pub mod Tables
 pub mod Addresses
+pub mod LayerBytes
 pub mod Dots
 pub mod Accepting

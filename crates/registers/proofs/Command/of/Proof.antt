@@ -1,6 +1,7 @@
-use mathlib.Core.Bool.{_&&_}
-use mathlib.Core.Path.{_≡_}
-use borrow.Author.Tests.{le-leb, lt-leb, ne-eqb}
+use Prim.Native.Nat.{ℕ, _≤_}
+use mathlib.Core.Bool.{Bool, true, false, _&&_}
+use mathlib.Core.Path.{_≡_, refl}
+use borrow.Author.Tests.{le-leb, lt-leb, leb-true}
 use native.Mathlib.Omega.{arith}
 use Rattle.registers.specs.declared.Command.the-variants.{None, Disp, CsrDir}
 use Rattle.registers.specs.Choice.{if_then_else_, _≤?_}
@@ -8,12 +9,21 @@ use Rattle.registers.specs.Commands.{commandOf}
 use Rattle.registers.proofs.Command.of.Statement.{statement}
 use Rattle.registers.proofs.Command.of.Tie as tie
 
+-- a byte that is not a code
+another : {b k : ℕ} → (b ≡ k → ⊥) → (k ≤? b && b ≤? k) ≡ false
+another {b} {k} ne = go (k ≤? b) (b ≤? k) (leb-true k b) (leb-true b k)
+  where
+    go : (x y : Bool) → (x ≡ true → k ≤ b) → (y ≡ true → b ≤ k) → (x && y) ≡ false
+    go true true f g = absurd (ne (omega (arith, f refl, g refl)))
+    go true false f g = refl
+    go false y f g = refl
+
 -- a byte that is none of the single codes: the two ranges decide
 rest : (c : tie.At-match-rest) → let b = c .before .args .b in commandOf b ≡ (if 0x58 ≤? b && b ≤? 0x59 then Disp else if 0x4C ≤? b && b ≤? 0x4F then CsrDir else None)
 unfolding commandOf
 rest c =
     let n = c .match .rest in
-    simp (ne-eqb _ _ (n .1), ne-eqb _ _ (n .0 .1), ne-eqb _ _ (n .0 .0 .1), ne-eqb _ _ (n .0 .0 .0 .1), ne-eqb _ _ (n .0 .0 .0 .0 .1), ne-eqb _ _ (n .0 .0 .0 .0 .0 .1), ne-eqb _ _ (n .0 .0 .0 .0 .0 .0 .1), ne-eqb _ _ (n .0 .0 .0 .0 .0 .0 .0 .1), ne-eqb _ _ (n .0 .0 .0 .0 .0 .0 .0 .0 .1), ne-eqb _ _ (n .0 .0 .0 .0 .0 .0 .0 .0 .0 .1), ne-eqb _ _ (n .0 .0 .0 .0 .0 .0 .0 .0 .0 .0 .1), ne-eqb _ _ (n .0 .0 .0 .0 .0 .0 .0 .0 .0 .0 .0 .1))
+    simp (another (n .1), another (n .0 .1), another (n .0 .0 .1), another (n .0 .0 .0 .1), another (n .0 .0 .0 .0 .1), another (n .0 .0 .0 .0 .0 .1), another (n .0 .0 .0 .0 .0 .0 .1), another (n .0 .0 .0 .0 .0 .0 .0 .1), another (n .0 .0 .0 .0 .0 .0 .0 .0 .1), another (n .0 .0 .0 .0 .0 .0 .0 .0 .0 .1), another (n .0 .0 .0 .0 .0 .0 .0 .0 .0 .0 .1), another (n .0 .0 .0 .0 .0 .0 .0 .0 .0 .0 .0 .1))
 
 pub of-spec : {M : Type 1} → statement M
 unfolding commandOf

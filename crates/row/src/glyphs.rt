@@ -33,7 +33,7 @@ fn glyph_of(m0: bool, code: u8) -> Glyph
     Glyph::CgRam
 }
 
-fn font_byte(font: &[u8], index: u8, row: u16) -> u8
+fn font_byte(font: &[u8], index: u8, row: u8) -> u8
     ensures { λ r. ⌜ r ≡ fontByte (now (font .entry)) index row ⌝ }
 {
     if row < 8 {
@@ -45,10 +45,10 @@ fn font_byte(font: &[u8], index: u8, row: u16) -> u8
     0
 }
 
-fn cg_ram_byte(k: ColumnSetup, memory: &[u8], code: u8, row: u16) -> u8
+fn cg_ram_byte(k: ColumnSetup, memory: &[u8], code: u8, row: u8) -> u8
     ensures { λ r. ⌜ r ≡ cgRamByte (k .m2) (k .cgram) (now (memory .entry)) code row ⌝ }
 {
-    let start = std::num::wrapping_add_u16(k.cgram, row);
+    let start = std::num::wrapping_add_u16(k.cgram, row as u16);
     if k.m2 {
         let address = std::num::wrapping_add_u16(start, code as u16 * 16);
         return fetch(memory, address);
@@ -62,7 +62,7 @@ fn cg_ram_byte(k: ColumnSetup, memory: &[u8], code: u8, row: u16) -> u8
 }
 
 // A row of the glyph of a code. Each source is called from one place, so that it is inlined.
-pub fn glyph_byte(k: ColumnSetup, memory: &[u8], font: &[u8], code: u8, row: u16) -> u8
+pub fn glyph_byte(k: ColumnSetup, memory: &[u8], font: &[u8], code: u8, row: u8) -> u8
     ensures { λ r. ⌜ r ≡ glyphByte (k .m0) (k .m2) (k .cgram) (now (memory .entry)) (now (font .entry)) code row ⌝ }
 {
     let glyph = glyph_of(k.m0, code);

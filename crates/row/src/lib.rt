@@ -31,7 +31,7 @@ pub enum Glyph {
 pub enum Source {
     Blank,
     Graphics(u16),
-    Text(u16, u16),
+    Text(u16, u8),
 }
 
 // The cursor on a row: the address of the row's first code, and the bits that it inverts in its cell.

@@ -26,7 +26,10 @@ fn block_source(text: bool, start: u16, pitch: u16, fy: Code, q: u16) -> Source
 {
     if text {
         let height = fy.count();
-        return Source::Text(line_address(start, pitch, q / height.0), (q % height.0) as u8);
+        return Source::Text(
+            line_address(start, pitch, q / height.0),
+            (q % height.0) as u8,
+        );
     }
     Source::Graphics(line_address(start, pitch, q))
 }

@@ -13,4 +13,4 @@ first-bits-spec =
     (λ c. search needs)
     (λ c. search needs)
     (λ c. simp (lt-ltb _ _ (rw (c .before .before .count .ensures) at (c .if1 .taken)), c .before .before .count .ensures))
-    (λ c. simp (le-ltb _ _ (rw (c .before .before .count .ensures) at (c .if1 .left)), c .before .before .count .ensures)))
+    (λ c. simp (le-ltb _ _ (rw (c .before .before .count .ensures) at (c .if1 .left)))))

@@ -10,5 +10,5 @@ split-spec =
     tie.close
     (tie.spec
     (λ c κs. search needs)
-    (λ c. simp (lt-ltb _ _ (rw (c .before .before .count .ensures) at (c .if1 .taken)), c .before .before .count .ensures))
+    (λ c. simp (lt-ltb _ _ (rw (c .before .before .count .ensures) at (c .if1 .taken))))
     (λ c. let p = c .before .before .before in simp (le-ltb _ _ (rw (p .count .ensures) at (c .before .if1 .left)), p .count .ensures)))

@@ -17,6 +17,6 @@ source-byte-spec =
     (λ c κs. search needs)
     (λ c κs. search needs)
     (λ c κs. search needs)
-    (λ c. simp (c .enum-told .given .1, fetch-mod))
+    (λ c. simp (c .enum-told .given .1))
     (λ c. let p = c .before .before .before in simp (p .from .given .1, c .before .wrapping-add-u16 .ensures, c .fetch .ensures, fetch-mod))
     (λ c. let p = c .before .before .before .before in simp (p .from2 .given .1, c .before .before .wrapping-add-u162 .ensures, c .before .fetch2 .ensures, c .glyph-byte .ensures, fetch-mod)))

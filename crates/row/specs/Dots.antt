@@ -1,6 +1,6 @@
 -- 01, 'Blocks and layers of a row': the dots of a row.
 use Prim.Native.Nat.{ℕ, zero, suc, _+_, _-_, _*_, _/_, _%_, _^_}
-use mathlib.Core.Bool.{Bool, not, _&&_}
+use mathlib.Core.Bool.{not, _&&_}
 use mathlib.Core.List.{List, [], _∷_}
 use Rattle.registers.specs.declared.Code.{Code}
 use Rattle.registers.specs.declared.Registers.{Registers}

@@ -1,6 +1,6 @@
 -- 01, 'Bus file and its program': records.
 use Prim.Native.Nat.{ℕ, _+_, _-_, _*_}
-use mathlib.Core.List.{List}
+use mathlib.Core.List.{List, _++_}
 use lib.ListN.{length, getD, take, drop}
 use Rattle.registers.specs.Choice.{if_then_else_, _<?_, _=?_}
 use Rattle.busfile.specs.declared.Kind.{Kind}
@@ -17,13 +17,19 @@ wordOf s = getD s 0 0 + 256 * getD s 1 0
 unfoldable pub doubleWordOf : List ℕ → ℕ
 doubleWordOf s = wordOf s + 65536 * wordOf (drop 2 s)
 
--- Kind 1: at least 1 byte. Kind 2: a 2-byte count. Kind 3: a 4-byte frame number. A length above 65,532 is wrong.
+-- the number of a kind
+abbrev pub kindNumber : Kind → ℕ
+kindNumber Bus = 1
+kindNumber Reads = 2
+kindNumber Frame = 3
+
+-- Bus: at least 1 byte. Reads: a 2-byte count. Frame: a 4-byte frame number. A length above 65,532 is wrong.
 unfoldable pub shapeOf : ℕ → ℕ → Shape
 shapeOf kind size =
     if 65532 <? size then Wrong
-    else if kind =? 1 then (if size =? 0 then Wrong else Good Bus)
-    else if kind =? 2 then (if size =? 2 then Good Reads else Wrong)
-    else if kind =? 3 then (if size =? 4 then Good Frame else Wrong)
+    else if kind =? kindNumber Bus then (if size =? 0 then Wrong else Good Bus)
+    else if kind =? kindNumber Reads then (if size =? 2 then Good Reads else Wrong)
+    else if kind =? kindNumber Frame then (if size =? 4 then Good Frame else Wrong)
     else Wrong
 
 -- a record whose header stands at a place: cut, where it does not end within the file
@@ -43,3 +49,7 @@ recordAt s at =
 -- the part of a list from start to end
 abbrev pub partOf : List ℕ → ℕ → ℕ → List ℕ
 partOf s start end = take (end - start) (drop start s)
+
+-- a buffer with that part of it moved to its front
+abbrev pub compacted : List ℕ → ℕ → ℕ → List ℕ
+compacted s start end = partOf s start end ++ drop (length (partOf s start end)) s

@@ -3,6 +3,7 @@ mod reading;
 mod records;
 
 pub use reading::found_at;
+pub use records::compact;
 pub use records::double_word;
 pub use records::part;
 pub use records::record_at;

@@ -4,8 +4,15 @@ use crate::Kind;
 use crate::Record;
 use crate::Shape;
 ghost use mathlib.Core.Path.{_≡_};
-ghost use lib.ListN.{getD};
-ghost use Rattle.busfile.specs.Records.{wordOf, doubleWordOf, shapeOf, recordAt, partOf};
+ghost use lib.ListN.{getD, length};
+ghost use Rattle.busfile.specs.Records.{
+  wordOf,
+  doubleWordOf,
+  shapeOf,
+  recordAt,
+  partOf,
+  compacted,
+};
 
 // The byte at a place, 0 past the end.
 fn byte(s: &[u8], at: usize) -> u8
@@ -43,6 +50,21 @@ pub fn part(s: &[u8], start: usize, end: usize) -> &[u8]
         return &s[start..];
     }
     &s[start..end]
+}
+
+// Moves the part of a buffer from start to end, as far as the buffer goes, to its front, and answers how long the part is.
+pub fn compact(buffer: &mut [u8], start: usize, end: usize) -> usize
+    ensures { λ r. ⌜ r ≡ length (partOf (now (buffer .entry)) start end) ⌝ }
+    ensures { λ _. ⌜ now (buffer .exit) ≡ compacted (now (buffer .entry)) start end ⌝ }
+{
+    let size = part(buffer, start, end).len();
+    let mut i: usize = 0;
+    while i < size {
+        let from = start + i;
+        buffer[i] = buffer[from];
+        i += 1;
+    }
+    size
 }
 
 fn shape_of(kind: u16, size: u16) -> Shape

@@ -62,21 +62,6 @@ pub fn read_font(font: &mut [u8]) -> usize {
     size
 }
 
-// Moves the bytes from at to filled to the front, and answers how many there are.
-fn shift(input: &mut [u8], at: usize, filled: usize) -> usize {
-    let mut to: usize = 0;
-    let mut from = at;
-    while from < filled {
-        if input.len() <= from {
-            return to;
-        }
-        input[to] = input[from];
-        to += 1;
-        from += 1;
-    }
-    to
-}
-
 // Reads behind the first bytes until the input is full or ends, and answers how many bytes it then has.
 fn read_on(input: &mut [u8], kept: usize) -> usize {
     if input.len() <= kept {
@@ -102,7 +87,7 @@ fn fill(p: Progress, input: &mut [u8]) -> Progress {
             return p;
         }
     }
-    let kept = shift(input, at, filled);
+    let kept = busfile::compact(input, at, filled);
     let total = read_on(input, kept);
     Progress {
         at: 0,
@@ -152,7 +137,7 @@ fn run_next(
     let at = p.at;
     let record = std::num::wrapping_add_u64(p.records, 1);
     let file = busfile::part(input, 0, p.filled);
-    let found = busfile::record_at(file, at);
+    let found = busfile::found_at(file, at);
     if let Found::End = found {
         return Step {
             progress: p.stopped(),

@@ -1,0 +1,129 @@
+-- Reading in parts. Bytes before a part move its places (`shifted`); bytes after it change nothing for a record that ends within it (`long`).
+use Prim.Native.Nat.{ℕ, _+_, _-_, _≤_}
+use mathlib.Core.Bool.{Bool, true, false}
+use mathlib.Core.List.{List, [], _++_, append-nil}
+use mathlib.Core.Logic.{⊎-elim}
+use mathlib.Core.Path.{_≡_, refl, sym, ap, _∙_}
+use native.Mathlib.Nat.{add-assoc}
+use native.Mathlib.Omega.{arith}
+use lib.ListN.{length, drop, length-append, length-drop, List·getD-append}
+use lib.Seq.{drop-append-add, drop-append-le, take-append-le}
+use borrow.Author.Tests.{ltb-false, le-ltb, ne-eqb}
+use Rattle.registers.specs.Choice.{if_then_else_, _<?_, _=?_}
+use Rattle.busfile.specs.declared.Record as R
+use Rattle.busfile.specs.declared.Shape.{Shape}
+use Rattle.busfile.specs.declared.Shape.the-variants.{Good, Wrong}
+use Rattle.busfile.specs.declared.Found.{Found}
+use Rattle.busfile.specs.declared.Found.the-variants.{Record, Bad}
+use Rattle.busfile.specs.Records.{wordOf, shapeOf, bodyOf, recordAt, partOf}
+use Rattle.busfile.specs.Parts.{moved, longest, PartsSuffice}
+
+abbrev shapeAt : List ℕ → ℕ → Shape
+shapeAt l at = shapeOf (wordOf (drop (at + 2) l)) (wordOf (drop at l))
+
+-- Bytes before
+
+moved-if : (k : ℕ) (test : Bool) (x y : Found) → moved k (if test then x else y) ≡ (if test then moved k x else moved k y)
+moved-if k true x y = refl
+moved-if k false x y = refl
+
+body-shifted : (shape : Shape) (k n at size : ℕ) → moved k (bodyOf shape n at size) ≡ bodyOf shape (k + n) (k + at) size
+body-shifted Wrong k n at size = refl
+body-shifted (Good kind) k n at size =
+    let left : k + n - (k + (at + 4)) ≡ n - (at + 4) = omega arith in
+    moved-if k (n - (at + 4) <? size) _ _ ∙ rw (add-assoc k at 4, add-assoc k (at + 4) size, left)
+
+shifted : (before l : List ℕ) (at : ℕ) → moved (length before) (recordAt l at) ≡ recordAt (before ++ l) (length before + at)
+unfolding recordAt
+shifted before l at =
+    let k : ℕ = length before in
+    let left : k + length l - (k + at) ≡ length l - at = omega arith in
+    let kind = drop-append-add before l (at + 2) in
+    let size = drop-append-add before l at in
+    moved-if k (length l - at =? 0) _ _
+    ∙ rw (moved-if k (length l - at <? 4), body-shifted (shapeAt l at), length-append, left, add-assoc k at 2, kind, size)
+
+-- the same for a payload
+part-shifted : (before l : List ℕ) (start end : ℕ) → partOf l start end ≡ partOf (before ++ l) (length before + start) (length before + end)
+part-shifted before l start end =
+    let e : length before + end - (length before + start) ≡ end - start = omega arith in
+    rw (e, drop-append-add before l start)
+
+-- Bytes after
+
+word-same : (part after : List ℕ) (n : ℕ) → n + 2 ≤ length part → wordOf (drop n part) ≡ wordOf (drop n (part ++ after))
+unfolding wordOf
+word-same part after n h =
+    let two : 2 ≤ length (drop n part) = rw length-drop (omega arith) in
+    let low = List·getD-append (drop n part) after 0 0 (omega arith) in
+    let high = List·getD-append (drop n part) after 0 1 (omega arith) in
+    rw (drop-append-le n part after (omega arith), low, high)
+
+part-same : (part after : List ℕ) (start end : ℕ) → start ≤ end → end ≤ length part → partOf part start end ≡ partOf (part ++ after) start end
+part-same part after start end h room =
+    rw (drop-append-le start part after (omega arith), take-append-le (end - start) (drop start part) after (rw length-drop (omega arith)))
+
+-- what stands at a whole header
+header : (l : List ℕ) (at : ℕ) → at + 4 ≤ length l → recordAt l at ≡ bodyOf (shapeAt l at) (length l) at (wordOf (drop at l))
+unfolding recordAt
+header l at h =
+    rw (ne-eqb (length l - at) 0 (λ e. let z : length l - at ≡ 0 = e in omega arith), le-ltb (length l - at) 4 (omega arith))
+
+-- none is cut where the longest would not be
+body-same : (n m at kind size : ℕ) → at + longest ≤ n → bodyOf (shapeOf kind size) n at size ≡ bodyOf (shapeOf kind size) (n + m) at size
+unfolding shapeOf
+body-same n m at kind size h = go (65532 <? size) refl
+  where
+    whole : (shape : Shape) → size ≤ 65532 → bodyOf shape n at size ≡ bodyOf shape (n + m) at size
+    whole Wrong small = refl
+    whole (Good k) small = rw (le-ltb (n - (at + 4)) size (omega arith), le-ltb (n + m - (at + 4)) size (omega arith))
+
+    go : (over : Bool) → (65532 <? size) ≡ over → bodyOf (shapeOf kind size) n at size ≡ bodyOf (shapeOf kind size) (n + m) at size
+    go true e = rw e
+    go false e = whole (shapeOf kind size) (ltb-false 65532 size e)
+
+-- one that was found ends within its list
+body-ends : (shape : Shape) (n at size : ℕ) (r : R.Record) → at + 4 ≤ n → bodyOf shape n at size ≡ Record r
+    → (r .start ≤ r .end) × (r .end ≤ n)
+body-ends Wrong n at size r h e = absurd (let z : _≡_ {A = ℕ} 0 1 = cc in omega arith)
+body-ends (Good kind) n at size r h e = go (n - (at + 4) <? size) refl e
+  where
+    go : (cut : Bool) → (n - (at + 4) <? size) ≡ cut
+        → (if cut then Bad else Record (record { kind = kind; start = at + 4; end = at + 4 + size })) ≡ Record r
+        → (r .start ≤ r .end) × (r .end ≤ n)
+    go true t e = absurd (let z : _≡_ {A = ℕ} 0 1 = cc in omega arith)
+    go false t e =
+        let fits : size ≤ n - (at + 4) = ltb-false (n - (at + 4)) size t in
+        let start : r .start ≡ at + 4 = cc in
+        let end : r .end ≡ at + 4 + size = cc in
+        (omega arith, omega arith)
+
+-- the same record and payload with the bytes after the part
+abbrev Same : List ℕ → List ℕ → ℕ → Type 0
+Same part after at =
+    (recordAt part at ≡ recordAt (part ++ after) at)
+    × ((r : R.Record) → recordAt part at ≡ Record r → partOf part (r .start) (r .end) ≡ partOf (part ++ after) (r .start) (r .end))
+
+last : (part after : List ℕ) (at : ℕ) → after ≡ [] → Same part after at
+last part after at e = let same : part ++ after ≡ part = rw (e, append-nil) in (rw same, λ r found. rw same)
+
+long : (part after : List ℕ) (at : ℕ) → at + longest ≤ length part → Same part after at
+long part after at h =
+    let here = header part at (omega arith) in
+    let there = header (part ++ after) at (rw length-append (omega arith)) in
+    let shape = word-same part after (at + 2) (omega arith) in
+    let size = word-same part after at (omega arith) in (
+      here ∙ body-same (length part) (length after) at (wordOf (drop (at + 2) part)) (wordOf (drop at part)) h
+          ∙ rw (shape, size, ← length-append part after) (sym there),
+      λ r found.
+          let ends = body-ends (shapeAt part at) (length part) at (wordOf (drop at part)) r (omega arith) (sym here ∙ found) in
+          part-same part after (r .start) (r .end) (ends .0) (ends .1),
+    )
+
+pub parts-suffice : PartsSuffice
+parts-suffice before part after at h =
+    let same = ⊎-elim (last part after at) (long part after at) h in
+    record {
+      found = ap (moved (length before)) (same .0) ∙ shifted before (part ++ after) at;
+      payload = λ r found. same .1 r found ∙ part-shifted before (part ++ after) (r .start) (r .end);
+    }

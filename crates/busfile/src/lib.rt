@@ -7,6 +7,7 @@ pub use records::compact;
 pub use records::double_word;
 pub use records::part;
 pub use records::record_at;
+pub use records::suffices;
 pub use records::word;
 
 // Kind 1: a command byte, then its data writes. Kind 2: a count of reads. Kind 3: a frame to show.

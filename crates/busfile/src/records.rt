@@ -3,6 +3,7 @@ use crate::Found;
 use crate::Kind;
 use crate::Record;
 use crate::Shape;
+ghost use Prim.Native.Nat.{_+_};
 ghost use mathlib.Core.Path.{_≡_};
 ghost use lib.ListN.{getD, length};
 ghost use Rattle.busfile.specs.Records.{
@@ -13,6 +14,10 @@ ghost use Rattle.busfile.specs.Records.{
   partOf,
   compacted,
 };
+ghost use Rattle.busfile.specs.Parts.{longest};
+ghost use Rattle.registers.specs.Choice.{_≤?_};
+
+const LONGEST: usize = 65536;
 
 // The byte at a place, 0 past the end.
 fn byte(s: &[u8], at: usize) -> u8
@@ -50,6 +55,19 @@ pub fn part(s: &[u8], start: usize, end: usize) -> &[u8]
         return &s[start..];
     }
     &s[start..end]
+}
+
+// Whether what stands at a place of a part of a file is known without what follows the part.
+pub fn suffices(part: &[u8], at: usize) -> bool
+    ensures { λ r. ⌜ r ≡ (at + longest ≤? length (now (part .entry))) ⌝ }
+{
+    if part.len() < at {
+        return false;
+    }
+    if part.len() - at < LONGEST {
+        return false;
+    }
+    true
 }
 
 // Moves the part of a buffer from start to end, as far as the buffer goes, to its front, and answers how long the part is.

@@ -14,9 +14,6 @@ use model::Controller;
 ghost use mathlib.Core.Path.{_≡_};
 ghost use lib.ListN.{length};
 
-// The longest record: with so many bytes from a place on, what stands there is known.
-const LONGEST: usize = 65536;
-
 // Where the file is: its bytes from at to filled are in the input buffer, and ended says that no more come.
 pub struct Progress {
     pub at: usize,
@@ -82,10 +79,8 @@ fn fill(p: Progress, input: &mut [u8]) -> Progress {
     }
     let at = p.at;
     let filled = p.filled;
-    if at <= filled {
-        if LONGEST <= filled - at {
-            return p;
-        }
+    if busfile::suffices(busfile::part(input, 0, filled), at) {
+        return p;
     }
     let kept = busfile::compact(input, at, filled);
     let total = read_on(input, kept);

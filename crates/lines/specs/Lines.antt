@@ -1,16 +1,61 @@
--- 01, 'Bus file and its program': how lines are made.
-use Prim.Native.Nat.{ℕ, _+_, _-_, _%_}
-use mathlib.Core.List.{List, _++_, map}
-use lib.ListN.{length, take, drop}
+-- 01, 'Bus file and its program': the lines that the program prints, as bytes, and how they stand in a buffer.
+use Prim.Native.Char.{code}
+use Prim.Native.Nat.{ℕ, zero, suc, _+_, _/_, _%_}
+use Prim.Native.String.{String, [] as none, _∷_ as _then_}
+use mathlib.Core.List.{List, [], _∷_, _++_, map}
+use lib.ListN.{length, getD, take, drop}
 use Rattle.registers.specs.Choice.{if_then_else_, _<?_, _≤?_}
 
--- one upper-case hex digit, of the low four bits
-unfoldable pub hexDigit : ℕ → ℕ
-hexDigit n = if n % 16 <? 10 then 0x30 + n % 16 else 0x37 + n % 16
+-- the bytes of a text
+abbrev pub ascii : String → List ℕ
+ascii none = []
+ascii (c then rest) = code c ∷ ascii rest
 
--- a row's line: one digit a dot
-abbrev pub digits : List ℕ → List ℕ
-digits dots = map hexDigit dots
+-- the character of a digit
+unfoldable pub digit : ℕ → ℕ
+digit d = getD (ascii "0123456789ABCDEF") d 0
+
+-- the hex digit of the low four bits
+abbrev pub hexDigit : ℕ → ℕ
+hexDigit n = digit (n % 16)
+
+-- the decimal digits of n, which is below k: those before the last, where there are any, and the last
+unfoldable pub decimalBelow : ℕ → ℕ → List ℕ
+decimalBelow zero n = []
+decimalBelow (suc k) n = (if n <? 10 then [] else decimalBelow k (n / 10)) ++ (digit (n % 10) ∷ [])
+
+-- a blank and a number: decimal, without leading zeros
+unfoldable pub number : ℕ → List ℕ
+number n = ascii " " ++ decimalBelow (n + 1) n
+
+-- a text with numbers behind it
+abbrev pub withNumbers : List ℕ → List ℕ → List ℕ
+withNumbers text [] = text
+withNumbers text (n ∷ ns) = withNumbers (text ++ number n) ns
+
+-- `refused RECORD BYTE NUMBER`
+abbrev pub refusedLine : ℕ → ℕ → ℕ → List ℕ
+refusedLine r byte n = ascii "refused" ++ number r ++ number byte ++ number n ++ ascii "\n"
+
+-- `read RECORD INDEX VALUE`, the value in `two upper-case hex digits`
+abbrev pub readLine : ℕ → ℕ → ℕ → List ℕ
+readLine r index v = ascii "read" ++ number r ++ number index ++ (ascii " " ++ (hexDigit (v / 16) ∷ hexDigit v ∷ ascii "\n"))
+
+-- `frame RECORD FRAME WIDTH ROWS`
+abbrev pub frameLine : ℕ → ℕ → ℕ → ℕ → List ℕ
+frameLine r frame width rows = ascii "frame" ++ number r ++ number frame ++ number width ++ number rows ++ ascii "\n"
+
+-- `one line a row, one upper-case hex digit a dot`
+unfoldable pub rowLine : List ℕ → List ℕ
+rowLine dots = map hexDigit dots ++ ascii "\n"
+
+-- `bad RECORD`
+abbrev pub badLine : ℕ → List ℕ
+badLine r = ascii "bad" ++ number r ++ ascii "\n"
+
+-- `end COUNT`
+abbrev pub endLine : ℕ → List ℕ
+endLine count = ascii "end" ++ number count ++ ascii "\n"
 
 -- a buffer of which the first bytes are used, with a text behind them where it fits
 abbrev pub appended : List ℕ → ℕ → List ℕ → List ℕ
@@ -18,5 +63,6 @@ appended buffer used text =
     if used + length text ≤? length buffer then take used buffer ++ (text ++ drop (used + length text) buffer)
     else buffer
 
+-- how many are used then
 abbrev pub usedAfter : List ℕ → ℕ → List ℕ → ℕ
 usedAfter buffer used text = if used + length text ≤? length buffer then used + length text else used

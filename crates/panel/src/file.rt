@@ -107,15 +107,20 @@ fn run_record(
     match kind {
         Kind::Bus => run_bus(s, memory, out, payload, record),
         Kind::Reads => run_reads(s, memory, out, busfile::word(payload), record),
-        Kind::Frame => show(
-            s,
-            memory,
-            font,
-            out,
-            row,
-            busfile::double_word(payload),
-            record,
-        ),
+        Kind::Frame => {
+            let frame = busfile::double_word(payload);
+            let o = show(
+                s.controller,
+                memory,
+                font,
+                s.output,
+                out,
+                row,
+                frame,
+                record,
+            );
+            s.printed(o)
+        }
     }
 }
 
@@ -140,20 +145,19 @@ fn run_next(
         };
     }
     let Found::Record(r) = found else {
-        let controller = s.controller;
+        let o = put_bad(s.output, out, record);
         return Step {
             progress: p.stopped(),
-            session: Session {
-                controller: controller,
-                output: put_bad(s.output, out, record),
-            },
+            session: s.printed(o),
         };
     };
     let payload = busfile::part(file, r.start, r.end);
     let kind = r.kind;
+    let session = run_record(s, memory, font, out, row, kind, payload, record);
+    let o = session.output;
     Step {
-        progress: p.after(r.end),
-        session: run_record(s, memory, font, out, row, kind, payload, record),
+        progress: p.after(r.end, o.open),
+        session: session,
     }
 }
 
@@ -163,9 +167,10 @@ impl Progress {
         self
     }
 
-    // A good record that ended at a place.
-    fn after(mut self, at: usize) -> Progress {
+    // After a good record that ended at a place. A closed output stops the file.
+    fn after(mut self, at: usize, open: bool) -> Progress {
         self.at = at;
+        self.going = open;
         self.records = std::num::wrapping_add_u64(self.records, 1);
         self
     }
@@ -177,25 +182,17 @@ pub struct Step {
     pub session: Session,
 }
 
-// Reads on, and carries the next record out. A closed output stops it.
+// Reads on, and carries the next record out.
 fn turn(
-    p: Progress,
-    s: Session,
+    step: Step,
     memory: &mut [u8],
     font: &[u8],
     input: &mut [u8],
     out: &mut [u8],
     row: &mut [u8],
 ) -> Step {
-    let o = s.output;
-    if !o.open {
-        return Step {
-            progress: p.stopped(),
-            session: s,
-        };
-    }
-    let filled = fill(p, input);
-    run_next(filled, s, memory, font, input, out, row)
+    let p = fill(step.progress, input);
+    run_next(p, step.session, memory, font, input, out, row)
 }
 
 // All records. The loop counts its turns down from a number that no run uses up.
@@ -206,44 +203,37 @@ fn run_records(
     out: &mut [u8],
     row: &mut [u8],
 ) -> Step {
-    let mut progress = Progress {
-        at: 0,
-        filled: 0,
-        ended: false,
-        records: 0,
-        going: true,
-    };
-    let mut session = Session {
-        controller: Controller::reset(),
-        output: Output {
-            used: 0,
-            open: true,
+    let mut step = Step {
+        progress: Progress {
+            at: 0,
+            filled: 0,
+            ended: false,
+            records: 0,
+            going: true,
+        },
+        session: Session {
+            controller: Controller::reset(),
+            output: Output {
+                used: 0,
+                open: true,
+            },
         },
     };
     let mut turns = u64::MAX;
     while turns > 0 {
         turns -= 1;
-        let next = turn(progress, session, memory, font, input, out, row);
-        progress = next.progress;
-        session = next.session;
+        step = turn(step, memory, font, input, out, row);
+        let progress = step.progress;
         if !progress.going {
-            return Step {
-                progress: progress,
-                session: session,
-            };
+            return step;
         }
     }
-    Step {
-        progress: progress,
-        session: session,
-    }
+    step
 }
 
 // All records, and the line that ends the output.
 pub fn run_file(memory: &mut [u8], font: &[u8], input: &mut [u8], out: &mut [u8], row: &mut [u8]) {
     let last = run_records(memory, font, input, out, row);
-    let session = last.session;
-    let progress = last.progress;
-    let o = put_end(session.output, out, progress.records);
+    let o = put_end(last.session.output, out, last.progress.records);
     flush(o, out);
 }

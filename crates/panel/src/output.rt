@@ -2,6 +2,10 @@
 use libc::STDOUT_FILENO;
 use registers::Answer;
 use registers::ReadAnswer;
+ghost use Rattle.io.specs.Counts.{Counts};
+
+// The longest line: a row of 640 dots and its end.
+const LONGEST: usize = 641;
 
 // How many bytes of the output buffer are used, and whether standard output still takes them.
 pub struct Output {
@@ -9,65 +13,40 @@ pub struct Output {
     pub open: bool,
 }
 
+// A number, or a slice's length where that is less.
+pub fn at_most(n: usize, s: &[u8]) -> usize
+    ensures { λ r. ⌜ Counts r (now (s .entry)) ⌝ }
+{
+    if n < s.len() {
+        return n;
+    }
+    s.len()
+}
+
 // Writes out what the buffer holds.
 pub fn flush(o: Output, out: &[u8]) -> Output {
-    let used = o.used;
-    if o.open {
-        if used <= out.len() {
-            return Output {
-                used: 0,
-                open: io::write_all(STDOUT_FILENO, &out[..used]),
-            };
-        }
-    }
+    let used = at_most(o.used, out);
     Output {
         used: 0,
-        open: false,
+        open: o.open && io::write_all(STDOUT_FILENO, &out[..used]),
     }
 }
 
-// A text into the buffer, which is written out first where it has no room.
-fn put(o: Output, out: &mut [u8], text: &[u8]) -> Output {
-    let used = o.used;
-    if used <= out.len() {
-        if text.len() <= out.len() - used {
-            return Output {
-                used: lines::append(out, used, text),
-                open: o.open,
-            };
-        }
+// Room for any line: the buffer is written out where it has less.
+fn room(o: Output, out: &[u8]) -> Output {
+    let used = at_most(o.used, out);
+    if out.len() - used < LONGEST {
+        return flush(o, out);
     }
-    let flushed = flush(o, out);
-    Output {
-        used: lines::append(out, 0, text),
-        open: flushed.open,
-    }
+    o
 }
 
-fn put_number(o: Output, out: &mut [u8], n: u64) -> Output {
-    let mut text = [0u8; 20];
-    let k = io::decimal(n, &mut text);
-    put(o, out, &text[..k])
-}
-
-// The words of a line that start it: a name and the record's number.
-fn start(o: Output, out: &mut [u8], name: &[u8], record: u64) -> Output {
-    let o = put(o, out, name);
-    let o = put(o, out, b" ");
-    put_number(o, out, record)
-}
-
-fn next_number(o: Output, out: &mut [u8], n: u64) -> Output {
-    let o = put(o, out, b" ");
-    put_number(o, out, n)
-}
-
-// `refused RECORD BYTE NUMBER`
 fn refused(o: Output, out: &mut [u8], record: u64, byte: u64, number: u8) -> Output {
-    let o = start(o, out, b"refused", record);
-    let o = next_number(o, out, byte);
-    let o = next_number(o, out, number as u64);
-    put(o, out, b"\n")
+    let o = room(o, out);
+    Output {
+        used: lines::refused(out, o.used, record, byte, number),
+        open: o.open,
+    }
 }
 
 // What a write is answered: nothing is printed where it is accepted.
@@ -78,25 +57,20 @@ pub fn put_answer(o: Output, out: &mut [u8], answer: Answer, record: u64, byte: 
     }
 }
 
-// `read RECORD INDEX VALUE`, or the refusal.
+// What a read is answered: its value, or the refusal.
 pub fn put_read(o: Output, out: &mut [u8], answer: ReadAnswer, record: u64, index: u64) -> Output {
     match answer {
         ReadAnswer::Refused(refusal) => refused(o, out, record, index, refusal.number()),
         ReadAnswer::Value(v) => {
-            let digits = [
-                b' ',
-                lines::hex_digit(v / 16),
-                lines::hex_digit(v % 16),
-                b'\n',
-            ];
-            let o = start(o, out, b"read", record);
-            let o = next_number(o, out, index);
-            put(o, out, &digits)
+            let o = room(o, out);
+            Output {
+                used: lines::read(out, o.used, record, index, v),
+                open: o.open,
+            }
         }
     }
 }
 
-// `frame RECORD FRAME WIDTH ROWS`
 pub fn put_frame(
     o: Output,
     out: &mut [u8],
@@ -105,28 +79,33 @@ pub fn put_frame(
     width: usize,
     rows: u16,
 ) -> Output {
-    let o = start(o, out, b"frame", record);
-    let o = next_number(o, out, frame as u64);
-    let o = next_number(o, out, width as u64);
-    let o = next_number(o, out, rows as u64);
-    put(o, out, b"\n")
+    let o = room(o, out);
+    Output {
+        used: lines::frame(out, o.used, record, frame, width, rows),
+        open: o.open,
+    }
 }
 
-// A row of dots, one hex digit each.
-pub fn put_row(o: Output, out: &mut [u8], row: &mut [u8]) -> Output {
-    lines::spell(row);
-    let o = put(o, out, row);
-    put(o, out, b"\n")
+pub fn put_row(o: Output, out: &mut [u8], row: &[u8]) -> Output {
+    let o = room(o, out);
+    Output {
+        used: lines::row(out, o.used, row),
+        open: o.open,
+    }
 }
 
-// `bad RECORD`
 pub fn put_bad(o: Output, out: &mut [u8], record: u64) -> Output {
-    let o = start(o, out, b"bad", record);
-    put(o, out, b"\n")
+    let o = room(o, out);
+    Output {
+        used: lines::bad(out, o.used, record),
+        open: o.open,
+    }
 }
 
-// `end COUNT`
 pub fn put_end(o: Output, out: &mut [u8], count: u64) -> Output {
-    let o = start(o, out, b"end", count);
-    put(o, out, b"\n")
+    let o = room(o, out);
+    Output {
+        used: lines::end(out, o.used, count),
+        open: o.open,
+    }
 }

@@ -1,5 +1,6 @@
 // Records carried out on a controller.
 use crate::output::Output;
+use crate::output::at_most;
 use crate::output::put_answer;
 use crate::output::put_frame;
 use crate::output::put_read;
@@ -14,17 +15,22 @@ pub struct Session {
     pub output: Output,
 }
 
-// What a write left, and its line.
-fn answered(w: Written, o: Output, out: &mut [u8], record: u64, byte: u64) -> Session {
-    let controller = w.controller;
-    let answer = w.answer;
-    Session {
-        controller: controller,
-        output: put_answer(o, out, answer, record, byte),
+impl Session {
+    // The same controller, with more printed.
+    pub fn printed(mut self, o: Output) -> Session {
+        self.output = o;
+        self
     }
 }
 
 // One byte of a kind 1 record: the first is a command, the others are data.
+fn write(controller: Controller, memory: &mut [u8], b: u8, byte: u64) -> Written {
+    if byte == 1 {
+        return controller.command_write(b);
+    }
+    controller.data_write(memory, b)
+}
+
 fn run_byte(
     s: Session,
     memory: &mut [u8],
@@ -33,14 +39,13 @@ fn run_byte(
     record: u64,
     byte: u64,
 ) -> Session {
-    let controller = s.controller;
-    let o = s.output;
-    if byte == 1 {
-        let written = controller.command_write(b);
-        return answered(written, o, out, record, byte);
+    let written = write(s.controller, memory, b, byte);
+    let controller = written.controller;
+    let answer = written.answer;
+    Session {
+        controller: controller,
+        output: put_answer(s.output, out, answer, record, byte),
     }
-    let written = controller.data_write(memory, b);
-    answered(written, o, out, record, byte)
 }
 
 // A command byte, then its data writes.
@@ -63,13 +68,12 @@ pub fn run_bus(
 
 fn run_read(s: Session, memory: &[u8], out: &mut [u8], record: u64, index: u64) -> Session {
     let controller = s.controller;
-    let o = s.output;
     let read = controller.data_read(memory);
     let controller = read.controller;
     let answer = read.answer;
     Session {
         controller: controller,
-        output: put_read(o, out, answer, record, index),
+        output: put_read(s.output, out, answer, record, index),
     }
 }
 
@@ -86,82 +90,70 @@ pub fn run_reads(s: Session, memory: &[u8], out: &mut [u8], count: u16, record: 
 
 // The rows of a frame whose first row is accepted.
 fn show_rows(
-    s: Session,
+    controller: Controller,
     memory: &[u8],
     font: &[u8],
+    o: Output,
     out: &mut [u8],
     row: &mut [u8],
     frame: u32,
     rows: u16,
-) -> Session {
-    let controller = s.controller;
-    let mut o = s.output;
+) -> Output {
+    let mut o = o;
     let mut n: u16 = 0;
     while n < rows {
         controller.row(memory, font, frame, n as u32, row);
         o = put_row(o, out, row);
         n += 1;
     }
-    Session {
-        controller: controller,
-        output: o,
-    }
+    o
 }
 
 // A frame in a buffer of its width, or the refusal of its first row: its other rows get the same.
 fn show_frame(
-    s: Session,
+    controller: Controller,
     memory: &[u8],
     font: &[u8],
+    o: Output,
     out: &mut [u8],
     row: &mut [u8],
     frame: u32,
     rows: u16,
     record: u64,
-) -> Session {
-    let controller = s.controller;
+) -> Output {
     let answer = controller.row(memory, font, frame, 0, row);
     match answer {
-        Answer::Refused(_) => Session {
-            controller: controller,
-            output: put_answer(s.output, out, answer, record, 0),
-        },
+        Answer::Refused(_) => put_answer(o, out, answer, record, 0),
         Answer::Accepted => {
-            let o = put_frame(s.output, out, record, frame, row.len(), rows);
-            let shown = Session {
-                controller: controller,
-                output: o,
-            };
-            show_rows(shown, memory, font, out, row, frame, rows)
+            let o = put_frame(o, out, record, frame, row.len(), rows);
+            show_rows(controller, memory, font, o, out, row, frame, rows)
         }
     }
 }
 
-// A frame number to show. A row wider than the buffer is refused before its buffer is looked at.
+// A frame number to show. One wider than the row buffer has its rows refused before the buffer is looked at.
 pub fn show(
-    s: Session,
+    controller: Controller,
     memory: &[u8],
     font: &[u8],
+    o: Output,
     out: &mut [u8],
     row: &mut [u8],
     frame: u32,
     record: u64,
-) -> Session {
-    let controller = s.controller;
+) -> Output {
     let size = row::frame_size(controller.registers);
-    let width = size.width;
     let rows = size.rows;
-    if width <= row.len() {
-        return show_frame(
-            s,
-            memory,
-            font,
-            out,
-            &mut row[..width],
-            frame,
-            rows.0,
-            record,
-        );
-    }
-    show_frame(s, memory, font, out, row, frame, rows.0, record)
+    let width = at_most(size.width, row);
+    show_frame(
+        controller,
+        memory,
+        font,
+        o,
+        out,
+        &mut row[..width],
+        frame,
+        rows.0,
+        record,
+    )
 }

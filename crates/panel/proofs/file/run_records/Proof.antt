@@ -5,11 +5,11 @@ use Rattle.panel.proofs.file.run_records.Statement.{statement}
 use Rattle.panel.proofs.file.run_records.Tie as tie
 
 abbrev Inv-loop : tie.InvT-loop
-Inv-loop memory₀ font input₀ out₀ row₀ progress₀ session₀ turns₀ memory input out row progress session turns =
+Inv-loop memory₀ font input₀ out₀ row₀ step₀ turns₀ memory input out row step turns =
     (length memory ≡ length memory₀) × (length input ≡ length input₀) × (length out ≡ length out₀) × (length row ≡ length row₀)
 
 abbrev μ-loop : tie.MeasureT-loop
-μ-loop memory₀ font input₀ out₀ row₀ progress₀ session₀ turns₀ memory input out row progress session turns =
+μ-loop memory₀ font input₀ out₀ row₀ step₀ turns₀ memory input out row step turns =
     turns
 
 reset-requires : tie.Need-reset-requires Inv-loop μ-loop

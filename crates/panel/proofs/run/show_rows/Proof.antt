@@ -1,16 +1,15 @@
-use Prim.Native.Nat.{ℕ, zero-le, _-_, _≤_}
+use Prim.Native.Nat.{zero-le, _-_, _≤_}
 use mathlib.Core.Path.{_≡_, refl}
-use native.Mathlib.Omega.{arith}
 use lib.ListN.{length}
 use borrow.Author.Needs.{needs}
 use Rattle.panel.proofs.run.show_rows.Statement.{statement}
 use Rattle.panel.proofs.run.show_rows.Tie as tie
 
 abbrev Inv-loop : tie.InvT-loop
-Inv-loop memory font out₀ row₀ frame rows controller o₀ n₀ out row o n = (n ≤ rows) × (length out ≡ length out₀) × (length row ≡ length row₀)
+Inv-loop controller memory font out₀ row₀ frame rows o₀ n₀ out row o n = (n ≤ rows) × (length out ≡ length out₀) × (length row ≡ length row₀)
 
 abbrev μ-loop : tie.MeasureT-loop
-μ-loop memory font out₀ row₀ frame rows controller o₀ n₀ out row o n = rows - n
+μ-loop controller memory font out₀ row₀ frame rows o₀ n₀ out row o n = rows - n
 
 loop-holds : tie.Need-loop-holds Inv-loop μ-loop
 loop-holds c = (zero-le, refl, refl)

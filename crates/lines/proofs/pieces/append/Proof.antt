@@ -1,14 +1,14 @@
-use Prim.Native.Nat.{ℕ, _+_, _-_, _<_, _≤_}
+use Prim.Native.Nat.{ℕ, _+_, _-_, _≤_}
 use mathlib.Core.List.{List, _++_, append-nil}
-use mathlib.Core.Path.{_≡_, refl, ap, _∙_}
+use mathlib.Core.Path.{_≡_, _∙_}
 use native.Mathlib.Nat.{add-sub-cancel-left}
 use native.Mathlib.Omega.{arith}
 use lib.ListN.{length, take, drop, length-drop, drop-of-length-le}
 use lib.Seq.{take-length, drop-drop, length-take-le}
-use borrow.Author.Tests.{le-leb, lt-leb}
 use borrow.Author.Needs.{needs}
-use Rattle.lines.proofs.append.Statement.{statement}
-use Rattle.lines.proofs.append.Tie as tie
+use Rattle.lines.proofs.Buffers.{left-out, stands}
+use Rattle.lines.proofs.pieces.append.Statement.{statement}
+use Rattle.lines.proofs.pieces.append.Tie as tie
 
 -- what the copy leaves of a part as long as the text
 whole : (text part : List ℕ) → length part ≡ length text → take (length text) text ++ drop (length text) part ≡ text
@@ -21,17 +21,33 @@ joined l text u e = rw (e, add-sub-cancel-left, drop-drop)
 part-length : (l : List ℕ) (u n : ℕ) → u + n ≤ length l → length (take (u + n - u) (drop u l)) ≡ n
 part-length l u n h = rw add-sub-cancel-left (length-take-le n (drop u l) (rw length-drop (omega arith)))
 
+returns : tie.Need-returns
+returns c = let a = c .before .before .before .args in left-out (a .buffer .now) (a .used) (a .text .now) (omega arith)
+
+returns-2 : tie.Need-returns-2
+returns-2 c =
+    let a = c .before .before .before .before .args in left-out (a .buffer .now) (a .used) (a .text .now) (omega arith)
+
+returns-3 : tie.Need-returns-3
+returns-3 c =
+    let a = c .before .before .before .before .before .before .before .before .args in
+    let s = stands (a .buffer .now) (a .used) (a .text .now) (omega arith) in
+    let part = part-length (a .buffer .now) (a .used) (length (a .text .now)) (omega arith) in (
+      s .0,
+      joined (a .buffer .now) (a .text .now) (a .used) (c .before .before .copy .ensures .1 ∙ whole (a .text .now) _ part) ∙ s .1,
+    )
+
 pub append-spec : {M : Type 1} → statement M
 append-spec =
     tie.close
     (tie.spec
-    (λ c. let a = c .before .before .before .args in let e = lt-leb (a .used + length (a .text .now)) (length (a .buffer .now)) (omega (arith, c .if1 .taken)) in (rw e, rw e))
+    returns
     (λ c. search needs)
-    (λ c. let a = c .before .before .before .before .args in let e = lt-leb (a .used + length (a .text .now)) (length (a .buffer .now)) (omega (arith, c .if2 .taken, c .before .if1 .left)) in (rw e, rw e))
+    returns-2
     (λ c. search needs)
     (λ c. search needs)
     (λ c. search needs)
     (λ c. search needs)
     (λ c κs. search needs)
     (λ c. search needs)
-    (λ c. let a = c .before .before .before .before .before .before .before .before .args in let e = le-leb (a .used + length (a .text .now)) (length (a .buffer .now)) (omega arith) in (rw e, rw e (joined (a .buffer .now) (a .text .now) (a .used) (c .before .before .copy .ensures .1 ∙ whole (a .text .now) _ (part-length (a .buffer .now) (a .used) _ (omega arith)))))))
+    returns-3)

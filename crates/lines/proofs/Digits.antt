@@ -1,31 +1,16 @@
 -- Digits: their characters, and those of a decimal number.
 use Prim.Native.Nat.{ℕ, zero, suc, _+_, _-_, _*_, _/_, _%_, _^_, _<_, _≤_}
-use mathlib.Core.Bool.{Bool, true, false, _&&_}
+use mathlib.Core.Bool.{Bool, true, false}
 use mathlib.Core.List.{[], _∷_, _++_}
-use mathlib.Core.Logic.{⊎-elim}
-use mathlib.Core.Path.{_≡_, refl, sym, ap, _∙_, subst}
-use native.Mathlib.Nat.{le-of-suc-le-suc, not-suc-le-zero, eq-or-lt-of-le, pow-suc, one-le-pow, pow-le-pow-right, div-lt-iff-lt-mul, le-div-iff-mul-le}
+use mathlib.Core.Path.{_≡_, refl, sym, ap, _∙_}
+use native.Mathlib.Nat.{not-suc-le-zero, pow-suc, one-le-pow, pow-le-pow-right, div-lt-iff-lt-mul, le-div-iff-mul-le}
 use native.Mathlib.Omega.{arith}
-use lib.Dec.{T, leb, eqb, eqb→eq}
+use lib.Dec.{leb, eqb, eqb→eq}
 use borrow.Author.Tests.{lt-ltb, le-ltb, leb-true, leb-false}
 use Rattle.io.specs.Digits.{digits, Fewest, glyph}
 use Rattle.registers.specs.Choice.{if_then_else_, _<?_}
+use Rattle.registers.proofs.Below.{all-below}
 use Rattle.lines.specs.Lines.{digit, decimalBelow}
-
--- a test that passes at every number below n
-abbrev allBelow : (ℕ → Bool) → ℕ → Bool
-allBelow f zero = true
-allBelow f (suc n) = f n && allBelow f n
-
-all-below : (f : ℕ → Bool) (n : ℕ) → T (allBelow f n) → (k : ℕ) → k < n → T (f k)
-all-below f zero t k h = absurd (not-suc-le-zero h)
-all-below f (suc n) t k h =
-    let b = both (f n) t in
-    ⊎-elim (λ e. subst (λ (x : ℕ). T (f x)) (sym e) (b .0)) (λ l. all-below f n (b .1) k l) (eq-or-lt-of-le (le-of-suc-le-suc h))
-  where
-    both : (b : Bool) → T (b && allBelow f n) → T b × T (allBelow f n)
-    both true u = (tt, u)
-    both false u = absurd u
 
 abbrev code : ℕ → ℕ
 code d = if d <? 10 then 0x30 + d else 0x37 + d

@@ -4,7 +4,7 @@ use mathlib.Core.Bool.{Bool, true, false, not, _&&_}
 use mathlib.Core.List.{List}
 use mathlib.Core.Logic.{⊎-elim}
 use mathlib.Core.Path.{_≡_, refl, sym, ap, _∙_, subst}
-use native.Mathlib.Nat.{le-of-suc-le-suc, not-suc-le-zero, mod-eq-of-lt, mod-lt, div-one, eq-or-lt-of-le, eq-zero-or-pos}
+use native.Mathlib.Nat.{le-of-suc-le-suc, not-suc-le-zero, mod-eq-of-lt, mod-lt, div-one, eq-zero-or-pos}
 use native.Mathlib.Omega.{arith}
 use lib.Bits.{bitAnd, bitOr, bitXor, or-shr, or-mod, xor-shr, xor-mod, and-shr, and-mod, xor-zero-r}
 use lib.Dec.{T, eqb→eq}
@@ -13,6 +13,7 @@ use borrow.Author.Tests.{lt-ltb, le-ltb}
 use Rattle.registers.specs.declared.Registers.{Registers}
 use Rattle.registers.specs.Choice.{if_then_else_, _<?_, _=?_}
 use Rattle.registers.specs.Counts.{⁅_⁆}
+use Rattle.registers.proofs.Below.{allBelow, all-below}
 use Rattle.row.specs.declared.LayerRow.{LayerRow}
 use Rattle.row.specs.declared.LayerRow.the-variants.{Nothing, Block}
 use Rattle.row.specs.Layers.{isText, sad, threeLayers, layer1, layer2, layer3}
@@ -36,21 +37,6 @@ below4 : (P : ℕ → Type 0) → P 0 → P 1 → P 2 → P 3 → (d : ℕ) → 
 below4 P p0 p1 p2 p3 zero h = p0
 below4 P p0 p1 p2 p3 (suc zero) h = p1
 below4 P p0 p1 p2 p3 (suc (suc d)) h = below2 (λ x. P (suc (suc x))) p2 p3 d (le-of-suc-le-suc (le-of-suc-le-suc h))
-
--- a test that passes at every number below n
-abbrev allBelow : (ℕ → Bool) → ℕ → Bool
-allBelow f zero = true
-allBelow f (suc n) = f n && allBelow f n
-
-all-below : (f : ℕ → Bool) (n : ℕ) → T (allBelow f n) → (k : ℕ) → k < n → T (f k)
-all-below f zero t k h = absurd (not-suc-le-zero h)
-all-below f (suc n) t k h =
-    let b = both (f n) t in
-    ⊎-elim (λ e. subst (λ (x : ℕ). T (f x)) (sym e) (b .0)) (λ l. all-below f n (b .1) k l) (eq-or-lt-of-le (le-of-suc-le-suc h))
-  where
-    both : (b : Bool) → T (b && allBelow f n) → T b × T (allBelow f n)
-    both true u = (tt, u)
-    both false u = absurd u
 
 -- Mixing
 

@@ -155,7 +155,7 @@ fn reads(records: &mut Records, random: &mut Random) {
         2 => {
             records.command(MREAD, &[]);
             let many = random.chance(10);
-            records.read(if many { random.between(256, 300) } else { random.below(6) } as u16);
+            records.read(if many { random.pick(&[256, 300, 65_535, 65_535]) } else { random.below(6) } as u16);
         }
         _ => records.read(random.below(3) as u16),
     }

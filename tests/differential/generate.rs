@@ -6,7 +6,7 @@ use crate::limits;
 use crate::random::Random;
 use crate::records::Records;
 use crate::setup::Setup;
-use reference::commands::{CSRDIR_LEFT, CSRDIR_RIGHT, CSRFORM, CSRR, CSRW, MREAD, MWRITE};
+use reference::commands::*;
 
 pub struct Case {
     pub bus: Vec<u8>,
@@ -24,6 +24,7 @@ pub fn generate(seed: u64) -> Case {
         1 => records.bytes = random.bytes(40),
         2 => many_records(&mut records, &mut random),
         3 => long_file(&mut records, &mut random),
+        4 => wide_frame(&mut records, &mut random),
         _ => picture(!usual_font, &mut records, &mut random),
     }
     if !records.bytes.is_empty() && random.chance(14) {
@@ -61,6 +62,41 @@ fn long_file(records: &mut Records, random: &mut Random) {
         records.command(MREAD, &[]);
         records.read(3);
     }
+}
+
+/// A frame of 640 x 256 dots, and before it just so many lines that one of its rows starts 640 bytes before the first
+/// 65,536 bytes of the output end: a program that buffers as many has no room for that row and its line end.
+fn wide_frame(records: &mut Records, random: &mut Random) {
+    records.command(SYSTEM_SET, &[0x10, 7, 7, 79, 83, 255, 80, 0]);
+    records.command(SCROLL, &[0, 0, 255, 0, 0x40, 255]);
+    records.command(OVLAY, &[0x0C | random.pick(&[0, 1, 3])]);
+    records.command(DISP_ON, &[0x14]);
+    records.word_command(CSRW, 0);
+    records.command(MWRITE, &random.bytes(20_480));
+    let (unknown, data) = lines_before(7);
+    for _ in 0..unknown {
+        records.command(0xFF, &[]);
+    }
+    records.command(0xFF, &vec![0; data]);
+    records.show(0);
+}
+
+/// How many records of an unknown code, and how many data bytes in one more, give the lines before the wide frame.
+fn lines_before(first_record: usize) -> (usize, usize) {
+    let code = |record: usize| format!("refused {} 1 2\n", record).len();
+    let byte = |record: usize, place: usize| format!("refused {} {} 3\n", record, place).len();
+    for unknown in 0..641 {
+        let record = first_record + unknown;
+        let codes: usize = (first_record..=record).map(code).sum();
+        let frame = format!("frame {} 0 640 256\n", record + 1).len();
+        for data in 0..641 {
+            let bytes: usize = (2..data + 2).map(|place| byte(record, place)).sum();
+            if (65_536 - codes - bytes - frame) % 641 == 640 {
+                return (unknown, data);
+            }
+        }
+    }
+    unreachable!("the lengths of the lines have no common divisor with 641")
 }
 
 fn picture(odd_font: bool, records: &mut Records, random: &mut Random) {

@@ -18,7 +18,7 @@ mod required;
 mod setup;
 
 use generate::generate;
-use program::{write_case, Folder};
+use program::{write_case, Folder, Input};
 use reference::busfile;
 use reference::coverage::{label, Coverage};
 use std::path::Path;
@@ -85,7 +85,8 @@ fn compare_seed(program: &Path, folder: &Path, seed: u64, cover: &mut Coverage) 
     let case = generate(seed);
     write_case((&folder.join("bus"), &case.bus), (&folder.join("font.bin"), case.font.as_deref()))
         .map_err(|error| error.to_string())?;
-    let printed = program::run(program, folder)?;
+    let input = if seed % 4 == 0 { Input::Pipe } else { Input::File };
+    let printed = program::run(program, folder, input)?;
     let expected = busfile::run(&case.bus, &case.font.unwrap_or_default(), cover);
     if printed == expected.as_bytes() {
         Ok(())

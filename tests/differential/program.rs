@@ -1,7 +1,7 @@
 //! Runs the program on one bus file, with a limit of time.
 
 use std::fs::{self, File};
-use std::io::{self, Read};
+use std::io::{self, Read, Write};
 use std::path::{Path, PathBuf};
 use std::process::{Command, Stdio};
 use std::sync::mpsc;
@@ -40,17 +40,39 @@ pub fn write_case(bus: (&Path, &[u8]), font: (&Path, Option<&[u8]>)) -> io::Resu
     }
 }
 
+/// How the program gets the bus file: as a file, or through a pipe, which hands it out in pieces.
+#[derive(Clone, Copy, PartialEq)]
+pub enum Input {
+    File,
+    Pipe,
+}
+
 /// What the program prints in the folder, with the file `bus` there on its standard input.
-pub fn run(program: &Path, folder: &Path) -> Result<Vec<u8>, String> {
+pub fn run(program: &Path, folder: &Path, input: Input) -> Result<Vec<u8>, String> {
     let told = |error: io::Error| error.to_string();
-    let bus = File::open(folder.join("bus")).map_err(told)?;
+    let bus = folder.join("bus");
+    let stdin = match input {
+        Input::File => Stdio::from(File::open(&bus).map_err(told)?),
+        Input::Pipe => Stdio::piped(),
+    };
     let mut child = Command::new(program)
         .current_dir(folder)
-        .stdin(bus)
+        .stdin(stdin)
         .stdout(Stdio::piped())
         .stderr(Stdio::null())
         .spawn()
         .map_err(told)?;
+    if let Some(mut pipe) = child.stdin.take() {
+        let bytes = fs::read(&bus).map_err(told)?;
+        thread::spawn(move || {
+            for piece in bytes.chunks(4_099) {
+                // After a bad record the program reads no more.
+                if pipe.write_all(piece).is_err() {
+                    return;
+                }
+            }
+        });
+    }
     let mut stdout = child.stdout.take().expect("standard output is piped");
     let (sender, receiver) = mpsc::channel();
     // The channel alone knows of a limit of time, so the reading is done beside it.
@@ -68,7 +90,7 @@ pub fn run(program: &Path, folder: &Path) -> Result<Vec<u8>, String> {
     match received {
         Err(_) => Err(format!("no end within {} s", TIME_LIMIT.as_secs())),
         Ok(Err(error)) => Err(error.to_string()),
-        Ok(Ok(_)) if status.code().is_none() => Err(format!("the program was ended: {}", status)),
+        Ok(Ok(_)) if !status.success() => Err(format!("the program ended with {}", status)),
         Ok(Ok(printed)) => Ok(printed),
     }
 }

@@ -3,7 +3,7 @@
 use reference::commands::*;
 
 /// Events that need no number.
-const PLAIN: [&str; 70] = [
+const PLAIN: [&str; 72] = [
     // Layers and blocks.
     "two layers, SL1 > SL2, before the split",
     "two layers, SL1 > SL2, after the split",
@@ -78,6 +78,8 @@ const PLAIN: [&str; 70] = [
     "payload of 65,532 bytes taken",
     "count of 0 reads",
     "count of 256 reads or more",
+    "count of 65,535 reads",
+    "row of 640 dots where 640 of the first 65,536 bytes are left",
     "record 256",
     "record 65,536",
 ];

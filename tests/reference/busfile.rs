@@ -116,7 +116,8 @@ fn command(controller: &mut Controller, record: u32, payload: &[u8], lines: &mut
 fn reads(controller: &mut Controller, record: u32, count: u16, lines: &mut String, cover: &mut Coverage) {
     match count {
         0 => cover.hit("count of 0 reads", &[]),
-        256..=65_535 => cover.hit("count of 256 reads or more", &[]),
+        65_535 => cover.hit("count of 65,535 reads", &[]),
+        256..=65_534 => cover.hit("count of 256 reads or more", &[]),
         _ => {}
     }
     let mut refused_before = 0;
@@ -144,6 +145,10 @@ fn show(controller: &Controller, record: u32, frame: u32, font: &[u8], lines: &m
             Ok(dots) => {
                 if number == 255 {
                     cover.hit("row 255 shown", &[]);
+                }
+                // A program that buffers 65,536 bytes has no room for the row and its line end.
+                if width == 640 && lines.len() + picture.len() == 65_536 - 640 {
+                    cover.hit("row of 640 dots where 640 of the first 65,536 bytes are left", &[]);
                 }
                 picture.extend(dots.iter().map(|dot| char::from(b"0123456789ABCDEF"[usize::from(*dot)])));
                 picture.push('\n');

@@ -16,32 +16,32 @@ use Rattle.busfile.specs.declared.Shape.the-variants.{Good, Wrong}
 use Rattle.busfile.specs.declared.Found.{Found}
 use Rattle.busfile.specs.declared.Found.the-variants.{Record, Bad}
 use Rattle.busfile.specs.Records.{wordOf, shapeOf, bodyOf, recordAt, partOf}
-use Rattle.busfile.specs.Parts.{moved, longest, PartsSuffice}
+use Rattle.busfile.specs.Parts.{further, longest, PartsSuffice}
 
 abbrev shapeAt : List ℕ → ℕ → Shape
 shapeAt l at = shapeOf (wordOf (drop (at + 2) l)) (wordOf (drop at l))
 
 -- Bytes before
 
-moved-if : (k : ℕ) (test : Bool) (x y : Found) → moved k (if test then x else y) ≡ (if test then moved k x else moved k y)
-moved-if k true x y = refl
-moved-if k false x y = refl
+further-if : (k : ℕ) (test : Bool) (x y : Found) → further k (if test then x else y) ≡ (if test then further k x else further k y)
+further-if k true x y = refl
+further-if k false x y = refl
 
-body-shifted : (shape : Shape) (k n at size : ℕ) → moved k (bodyOf shape n at size) ≡ bodyOf shape (k + n) (k + at) size
+body-shifted : (shape : Shape) (k n at size : ℕ) → further k (bodyOf shape n at size) ≡ bodyOf shape (k + n) (k + at) size
 body-shifted Wrong k n at size = refl
 body-shifted (Good kind) k n at size =
     let left : k + n - (k + (at + 4)) ≡ n - (at + 4) = omega arith in
-    moved-if k (n - (at + 4) <? size) _ _ ∙ rw (add-assoc k at 4, add-assoc k (at + 4) size, left)
+    further-if k (n - (at + 4) <? size) _ _ ∙ rw (add-assoc k at 4, add-assoc k (at + 4) size, left)
 
-shifted : (before l : List ℕ) (at : ℕ) → moved (length before) (recordAt l at) ≡ recordAt (before ++ l) (length before + at)
+shifted : (before l : List ℕ) (at : ℕ) → further (length before) (recordAt l at) ≡ recordAt (before ++ l) (length before + at)
 unfolding recordAt
 shifted before l at =
     let k : ℕ = length before in
     let left : k + length l - (k + at) ≡ length l - at = omega arith in
     let kind = drop-append-add before l (at + 2) in
     let size = drop-append-add before l at in
-    moved-if k (length l - at =? 0) _ _
-    ∙ rw (moved-if k (length l - at <? 4), body-shifted (shapeAt l at), length-append, left, add-assoc k at 2, kind, size)
+    further-if k (length l - at =? 0) _ _
+    ∙ rw (further-if k (length l - at <? 4), body-shifted (shapeAt l at), length-append, left, add-assoc k at 2, kind, size)
 
 -- the same for a payload
 part-shifted : (before l : List ℕ) (start end : ℕ) → partOf l start end ≡ partOf (before ++ l) (length before + start) (length before + end)
@@ -124,6 +124,6 @@ pub parts-suffice : PartsSuffice
 parts-suffice before part after at h =
     let same = ⊎-elim (last part after at) (long part after at) h in
     record {
-      found = ap (moved (length before)) (same .0) ∙ shifted before (part ++ after) at;
+      found = ap (further (length before)) (same .0) ∙ shifted before (part ++ after) at;
       payload = λ r found. same .1 r found ∙ part-shifted before (part ++ after) (r .start) (r .end);
     }

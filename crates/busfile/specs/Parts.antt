@@ -10,10 +10,10 @@ use Rattle.busfile.specs.declared.Found.the-variants.{Record, Bad, End}
 use Rattle.busfile.specs.Records.{recordAt, partOf}
 
 -- what was found, k bytes further on
-abbrev pub moved : ℕ → Found → Found
-moved k (Record r) = Record (record { kind = r .kind; start = k + r .start; end = k + r .end })
-moved k Bad = Bad
-moved k End = End
+abbrev pub further : ℕ → Found → Found
+further k (Record r) = Record (record { kind = r .kind; start = k + r .start; end = k + r .end })
+further k Bad = Bad
+further k End = End
 
 -- the longest record: a header of 4 bytes and a payload of 65,532
 abbrev pub longest : ℕ
@@ -21,7 +21,7 @@ longest = 65536
 
 -- A place in a part, with bytes before and after the part: what is found there stands there in the file, its payload too.
 pub record SameRecord (before part after : List ℕ) (at : ℕ) : Type 0 where
-  pub found : moved (length before) (recordAt part at) ≡ recordAt (before ++ (part ++ after)) (length before + at)
+  pub found : further (length before) (recordAt part at) ≡ recordAt (before ++ (part ++ after)) (length before + at)
   pub payload : (r : R.Record) → recordAt part at ≡ Record r
       → partOf part (r .start) (r .end) ≡ partOf (before ++ (part ++ after)) (length before + r .start) (length before + r .end)
 

@@ -57,7 +57,7 @@ pub fn part(s: &[u8], start: usize, end: usize) -> &[u8]
     &s[start..end]
 }
 
-// Whether what stands at a place of a part of a file is known without what follows the part.
+// Whether a part of a file has from a place on as many bytes as the longest record: what stands there is then known without what follows.
 pub fn suffices(part: &[u8], at: usize) -> bool
     ensures { λ r. ⌜ r ≡ (at + longest ≤? length (now (part .entry))) ⌝ }
 {

@@ -11,8 +11,12 @@ use busfile::Found;
 use busfile::Kind;
 use libc::STDIN_FILENO;
 use model::Controller;
+ghost use Prim.Native.Nat.{_+_, _≤_};
+ghost use mathlib.Core.Bool.{true};
+ghost use mathlib.Core.Logic.{_⊎_};
 ghost use mathlib.Core.Path.{_≡_};
 ghost use lib.ListN.{length};
+ghost use Rattle.busfile.specs.Parts.{longest};
 
 // Where the file is: its bytes from at to filled are in the input buffer, and ended says that no more come.
 pub struct Progress {
@@ -72,8 +76,10 @@ fn read_on(input: &mut [u8], kept: usize) -> usize {
     input.len()
 }
 
-// Reads on where the next record may not be whole.
-fn fill(p: Progress, input: &mut [u8]) -> Progress {
+// Reads on where the next record may not be whole: then the file has ended, or its longest record would be.
+fn fill(p: Progress, input: &mut [u8]) -> Progress
+    ensures { λ r. ⌜ (longest ≤ length (now (input .entry)) → (r .ended ≡ true) ⊎ (r .at + longest ≤ r .filled)) ⌝ }
+{
     if p.ended {
         return p;
     }

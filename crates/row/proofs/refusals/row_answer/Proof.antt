@@ -12,7 +12,16 @@ use Rattle.row.proofs.refusals.row_answer.Tie as tie
 
 refusal : (c : tie.After-answer) → let a = c .before .before .before .before .before .before .before .before .before .before .before .before .before .before .args in reply (c .answer .result) .refusal ≡ rowRefusal (a .r) memorySize fontSize (a .n) (a .buffer)
 unfolding rowRefusal firstRefusal width
-refusal c = c .answer .ensures ∙ rw (c .before .before .before .before .before .before .before .before .before .before .before .columns-width .ensures, c .before .before .before .before .before .before .before .before .before .before .before .before .dots-per-column .ensures, c .before .before .before .before .before .before .before .before .before .before .gray-unfit .ensures, c .before .before .before .before .before .before .before .before .before .count .ensures, c .before .before .before .before .before .before .before .lines-odd .ensures, c .before .before .before .before .order-unfit .ensures, c .before .before .before .cursor-unfit .ensures, c .before .before .count2 .ensures)
+refusal c =
+    let n = c .before .before in
+    let u = n .before in
+    let o = u .before in
+    let l = o .before .before .before in
+    let x = l .before .before in
+    let g = x .before in
+    let w = g .before in
+    c .answer .ensures
+    ∙ rw (w .columns-width .ensures, w .before .dots-per-column .ensures, g .gray-unfit .ensures, x .count .ensures, l .lines-odd .ensures, o .order-unfit .ensures, u .cursor-unfit .ensures, n .count2 .ensures)
 
 pub row-answer-spec : {M : Type 1} → statement M
 row-answer-spec =
@@ -31,4 +40,4 @@ row-answer-spec =
     (λ c κs. search needs)
     (λ c. search needs)
     (λ c κs. search needs)
-    (λ c. (refusal c, λ e. let below = accepted (c .before .before .before .before .before .before .before .before .before .before .before .before .before .before .args .r) (c .before .before .before .before .before .before .before .before .before .before .before .before .before .before .pre) _ _ _ _ (sym (refusal c) ∙ e) .below in omega (arith, below, rw (c .before .before .count2 .ensures) at (c .before .struct-known4 .given .0)))))
+    (λ c. (refusal c, λ e. let n = c .before .before in let s = n .before .before .before .before .before .before .before .before .before .before .before .before in omega (arith, accepted (s .args .r) (s .pre) _ _ _ _ (sym (refusal c) ∙ e) .below, rw (n .count2 .ensures) at (c .before .struct-known4 .given .0)))))

@@ -20,6 +20,15 @@ paint-spec =
     (λ c κs. search needs)
     (λ c κs. search needs)
     (λ c κs. search needs)
-    (λ c κs. rw (c .before .before .before .before .before .before .before .before .before .count .ensures, c .before .before .before .before .before .before .before .before .dots-per-column .ensures) (let p = c .before .before .before .before .before .before .before .before .before .before .before .before .before .before .pre in let k = columns-room (c .before .before .before .before .before .before .before .before .before .before .before .before .before .before .args .r) (p .1) in (p .0, k .0, k .1)))
+    (λ c κs. let d = c .before .before .before .before .before .before .before .before in let s = d .before .before .before .before .before .before in rw (d .before .count .ensures, d .dots-per-column .ensures) (let k = columns-room (s .args .r) (s .pre .1) in (s .pre .0, k .0, k .1)))
     (λ c. search needs)
-    (λ c. c .before .before .columns .ensures ∙ rw (c .before .before .before .before .before .before .before .before .before .before .before .before .count .ensures, c .before .before .before .before .before .before .before .before .before .before .before .dots-per-column .ensures, c .before .before .before .before .before .before .before .before .before .layer-source .ensures, c .before .before .before .before .before .before .layer-source2 .ensures, c .before .before .before .before .layer-source3 .ensures, c .before .before .before .before .before .before .before .before .cursor-row .ensures, c .before .before .before .before .before .before .before .before .before .before .layer1 .ensures, c .before .before .before .before .before .before .before .layer2 .ensures, c .before .before .before .before .before .layer3 .ensures) (row-dots _ _ _ _ _ (c .before .before .before .before .before .before .before .before .before .before .before .before .before .before .before .before .before .pre .1))))
+    (λ c.
+    let k = c .before .before in
+    let s3 = k .before .before in
+    let s2 = s3 .before .before in
+    let r = s2 .before .before in
+    let l1 = r .before .before in
+    let d = l1 .before in
+    k .columns .ensures
+    ∙ rw (d .before .count .ensures, d .dots-per-column .ensures, r .before .layer-source .ensures, s2 .layer-source2 .ensures, s3 .layer-source3 .ensures, r .cursor-row .ensures, l1 .layer1 .ensures, s2 .before .layer2 .ensures, s3 .before .layer3 .ensures)
+    (row-dots _ _ _ _ _ (d .before .before .before .before .before .before .pre .1))))

@@ -1,3 +1,4 @@
 pub mod Buffers
 pub mod Digits
 mod Examples
+pub mod Lengths

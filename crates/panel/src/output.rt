@@ -2,7 +2,13 @@
 use libc::STDOUT_FILENO;
 use registers::Answer;
 use registers::ReadAnswer;
+ghost use Prim.Native.Nat.{_+_, _<_, _≤_, min};
+ghost use mathlib.Core.Path.{_≡_};
+ghost use lib.ListN.{length};
 ghost use Rattle.io.specs.Counts.{Counts};
+ghost use Rattle.registers.specs.Choice.{if_then_else_, _=?_};
+ghost use Rattle.registers.specs.Refusals.{reply, readReply};
+ghost use Rattle.lines.specs.Lines.{refusedLine, readLine, frameLine, rowLine, badLine, endLine, EndWith, longestLine};
 
 // The longest line: a row of 640 dots and its end.
 const LONGEST: usize = 641;
@@ -16,6 +22,7 @@ pub struct Output {
 // A number, or a slice's length where that is less.
 pub fn at_most(n: usize, s: &[u8]) -> usize
     ensures { λ r. ⌜ Counts r (now (s .entry)) ⌝ }
+    ensures { λ r. ⌜ r ≡ min n (length (now (s .entry))) ⌝ }
 {
     if n < s.len() {
         return n;
@@ -24,7 +31,9 @@ pub fn at_most(n: usize, s: &[u8]) -> usize
 }
 
 // Writes out what the buffer holds.
-pub fn flush(o: Output, out: &[u8]) -> Output {
+pub fn flush(o: Output, out: &[u8]) -> Output
+    ensures { λ r. ⌜ r .used ≡ 0 ⌝ }
+{
     let used = at_most(o.used, out);
     Output {
         used: 0,
@@ -33,7 +42,9 @@ pub fn flush(o: Output, out: &[u8]) -> Output {
 }
 
 // Room for any line: the buffer is written out where it has less.
-fn room(o: Output, out: &[u8]) -> Output {
+fn room(o: Output, out: &[u8]) -> Output
+    ensures { λ r. ⌜ (longestLine ≤ length (now (out .entry)) → r .used + longestLine ≤ length (now (out .entry))) ⌝ }
+{
     let used = at_most(o.used, out);
     if out.len() - used < LONGEST {
         return flush(o, out);
@@ -41,7 +52,10 @@ fn room(o: Output, out: &[u8]) -> Output {
     o
 }
 
-fn refused(o: Output, out: &mut [u8], record: u64, byte: u64, number: u8) -> Output {
+// Each line is printed whole: the used bytes end with it.
+fn refused(o: Output, out: &mut [u8], record: u64, byte: u64, number: u8) -> Output
+    ensures { λ r. ⌜ (longestLine ≤ length (now (out .entry)) → EndWith (now (out .exit)) (r .used) (refusedLine «record» byte number)) ⌝ }
+{
     let o = room(o, out);
     Output {
         used: lines::refused(out, o.used, record, byte, number),
@@ -50,7 +64,9 @@ fn refused(o: Output, out: &mut [u8], record: u64, byte: u64, number: u8) -> Out
 }
 
 // What a write is answered: nothing is printed where it is accepted.
-pub fn put_answer(o: Output, out: &mut [u8], answer: Answer, record: u64, byte: u64) -> Output {
+pub fn put_answer(o: Output, out: &mut [u8], answer: Answer, record: u64, byte: u64) -> Output
+    ensures { λ r. ⌜ (longestLine ≤ length (now (out .entry)) → (reply answer .refusal ≡ 0 → ⊥) → EndWith (now (out .exit)) (r .used) (refusedLine «record» byte (reply answer .refusal))) ⌝ }
+{
     match answer {
         Answer::Accepted => o,
         Answer::Refused(refusal) => refused(o, out, record, byte, refusal.number()),
@@ -58,7 +74,9 @@ pub fn put_answer(o: Output, out: &mut [u8], answer: Answer, record: u64, byte: 
 }
 
 // What a read is answered: its value, or the refusal.
-pub fn put_read(o: Output, out: &mut [u8], answer: ReadAnswer, record: u64, index: u64) -> Output {
+pub fn put_read(o: Output, out: &mut [u8], answer: ReadAnswer, record: u64, index: u64) -> Output
+    ensures { λ r. ⌜ (longestLine ≤ length (now (out .entry)) → EndWith (now (out .exit)) (r .used) (if readReply answer .refusal =? 0 then readLine «record» index (readReply answer .value) else refusedLine «record» index (readReply answer .refusal))) ⌝ }
+{
     match answer {
         ReadAnswer::Refused(refusal) => refused(o, out, record, index, refusal.number()),
         ReadAnswer::Value(v) => {
@@ -78,7 +96,9 @@ pub fn put_frame(
     frame: u32,
     width: usize,
     rows: u16,
-) -> Output {
+) -> Output
+    ensures { λ r. ⌜ (longestLine ≤ length (now (out .entry)) → EndWith (now (out .exit)) (r .used) (frameLine «record» frame width rows)) ⌝ }
+{
     let o = room(o, out);
     Output {
         used: lines::frame(out, o.used, record, frame, width, rows),
@@ -86,7 +106,9 @@ pub fn put_frame(
     }
 }
 
-pub fn put_row(o: Output, out: &mut [u8], row: &[u8]) -> Output {
+pub fn put_row(o: Output, out: &mut [u8], row: &[u8]) -> Output
+    ensures { λ r. ⌜ (longestLine ≤ length (now (out .entry)) → length (now (row .entry)) < longestLine → EndWith (now (out .exit)) (r .used) (rowLine (now (row .entry)))) ⌝ }
+{
     let o = room(o, out);
     Output {
         used: lines::row(out, o.used, row),
@@ -94,7 +116,9 @@ pub fn put_row(o: Output, out: &mut [u8], row: &[u8]) -> Output {
     }
 }
 
-pub fn put_bad(o: Output, out: &mut [u8], record: u64) -> Output {
+pub fn put_bad(o: Output, out: &mut [u8], record: u64) -> Output
+    ensures { λ r. ⌜ (longestLine ≤ length (now (out .entry)) → EndWith (now (out .exit)) (r .used) (badLine «record»)) ⌝ }
+{
     let o = room(o, out);
     Output {
         used: lines::bad(out, o.used, record),
@@ -102,7 +126,9 @@ pub fn put_bad(o: Output, out: &mut [u8], record: u64) -> Output {
     }
 }
 
-pub fn put_end(o: Output, out: &mut [u8], count: u64) -> Output {
+pub fn put_end(o: Output, out: &mut [u8], count: u64) -> Output
+    ensures { λ r. ⌜ (longestLine ≤ length (now (out .entry)) → EndWith (now (out .exit)) (r .used) (endLine count)) ⌝ }
+{
     let o = room(o, out);
     Output {
         used: lines::end(out, o.used, count),

@@ -1,0 +1,53 @@
+-- No line is left out: how long each is, and that it stands in a buffer with room for the longest.
+use Prim.Native.Nat.{ℕ, zero, suc, _+_, _*_, _/_, _%_, _^_, _<_, _≤_}
+use mathlib.Core.Bool.{Bool, true, false}
+use mathlib.Core.List.{List, [], _∷_, _++_}
+use mathlib.Core.Path.{_≡_, refl}
+use native.Mathlib.Nat.{pow-suc, div-lt-iff-lt-mul}
+use native.Mathlib.Omega.{arith}
+use lib.ListN.{length, length-append, length-map}
+use borrow.Author.Tests.{ltb-false}
+use Rattle.registers.specs.Choice.{if_then_else_, _<?_}
+use Rattle.lines.specs.Lines.{digit, decimalBelow, number, withNumbers, rowLine, appended, usedAfter, EndWith, longestLine}
+use Rattle.lines.proofs.Buffers.{ends}
+
+decimal-length : (k n j : ℕ) → n < 10 ^ suc j → length (decimalBelow k n) ≤ suc j
+unfolding decimalBelow
+decimal-length zero n j h = omega arith
+decimal-length (suc k) n j h = go (n <? 10) refl j h (λ j l. decimal-length k (n / 10) j l)
+  where
+    go : (b : Bool) → (n <? 10) ≡ b → (j : ℕ) → n < 10 ^ suc j → ((j : ℕ) → n / 10 < 10 ^ suc j → length (decimalBelow k (n / 10)) ≤ suc j)
+        → length ((if b then [] else decimalBelow k (n / 10)) ++ (digit (n % 10) ∷ [])) ≤ suc j
+    go true e j h f = omega arith
+    go false e zero h f = absurd (omega (arith, h, ltb-false n 10 e))
+    go false e (suc j) h f = rw length-append (omega (arith, f j (div-lt-iff-lt-mul (omega arith) .1 (rw pow-suc at h))))
+
+number-length : (n : ℕ) → n < 2 ^ 64 → length (number n) ≤ 21
+unfolding number
+number-length n h = omega (arith, decimal-length (n + 1) n 19 (omega (arith, h)))
+
+-- numbers of 64 bits
+abbrev pub Small : List ℕ → Type 0
+Small [] = Unit {0}
+Small (n ∷ ns) = (n < 2 ^ 64) × Small ns
+
+numbers-length : (text ns : List ℕ) → Small ns → length (withNumbers text ns) ≤ length text + 21 * length ns
+numbers-length text [] h = omega arith
+numbers-length text (n ∷ ns) h =
+    omega (arith, numbers-length (text ++ number n) ns (h .1), length-append text (number n), number-length n (h .0))
+
+row-length : (dots : List ℕ) → length (rowLine dots) ≡ length dots + 1
+unfolding rowLine
+row-length dots = rw (length-append, length-map)
+
+-- a line with its name, at most four numbers and an end stands in a buffer that has room for the longest
+pub printed : (buffer : List ℕ) (used : ℕ) (name ns end : List ℕ) → Small ns → (length name ≤ 7) × (length ns ≤ 4) × (length end ≤ 4) → used + longestLine ≤ length buffer
+    → {r : ℕ} {b : List ℕ} → (r ≡ usedAfter buffer used (withNumbers name ns ++ end)) × (b ≡ appended buffer used (withNumbers name ns ++ end))
+    → EndWith b r (withNumbers name ns ++ end)
+printed buffer used name ns end small short room e =
+    ends buffer used (withNumbers name ns ++ end)
+    (omega (arith, numbers-length name ns small, length-append (withNumbers name ns) end, short .0, short .1, short .2)) e
+
+pub row-printed : (buffer : List ℕ) (used : ℕ) (dots : List ℕ) → length dots < longestLine → used + longestLine ≤ length buffer
+    → {r : ℕ} {b : List ℕ} → (r ≡ usedAfter buffer used (rowLine dots)) × (b ≡ appended buffer used (rowLine dots)) → EndWith b r (rowLine dots)
+row-printed buffer used dots short room e = ends buffer used (rowLine dots) (omega (arith, row-length dots)) e

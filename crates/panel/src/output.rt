@@ -66,6 +66,7 @@ fn refused(o: Output, out: &mut [u8], record: u64, byte: u64, number: u8) -> Out
 // What a write is answered: nothing is printed where it is accepted.
 pub fn put_answer(o: Output, out: &mut [u8], answer: Answer, record: u64, byte: u64) -> Output
     ensures { λ r. ⌜ (longestLine ≤ length (now (out .entry)) → (reply answer .refusal ≡ 0 → ⊥) → EndWith (now (out .exit)) (r .used) (refusedLine «record» byte (reply answer .refusal))) ⌝ }
+    ensures { λ r. ⌜ (reply answer .refusal ≡ 0 → (r ≡ o) × (now (out .exit) ≡ now (out .entry))) ⌝ }
 {
     match answer {
         Answer::Accepted => o,

@@ -2,11 +2,11 @@
 use Prim.Native.Nat.{ℕ, suc, _+_, _<_}
 use mathlib.Core.Bool.{Bool, true, false, not, _&&_}
 use mathlib.Core.List.{List}
-use mathlib.Core.Path.{_≡_, refl, subst}
+use mathlib.Core.Path.{_≡_, refl, sym, _∙_, subst}
 use native.Mathlib.Omega.{arith}
 use lib.Dec.{T}
 use lib.ListN.{length}
-use borrow.Author.Tests.{ltb-true, ltb-false, leb-false, eqb-true, not-false, ne-eqb}
+use borrow.Author.Tests.{lt-ltb, lt-leb, ltb-true, ltb-false, leb-false, eqb-true, not-false, ne-eqb}
 use Rattle.registers.specs.declared.Answer.the-variants.{Accepted, Refused}
 use Rattle.registers.specs.declared.Answer.{Answer}
 use Rattle.registers.specs.declared.Refusal.{Refusal}
@@ -47,14 +47,23 @@ gray-code registers = go (registers .gray <? 3) (ltb-true (registers .gray) 3)
     go true f = f refl
     go false f = omega arith
 
-pub record Composed (r : Registers) (n buffer : ℕ) : Type 0 where
-  pub below : n < ⁅ r .system .lf ⁆
-  pub whole : buffer ≡ width r
-  pub composable : Composable r
+-- what a row with no refusal has passed
+record Passed (r : Registers) (memory font n buffer : ℕ) : Type 0 where
+  memory-size : not (memory =? memorySize) ≡ false
+  font-size : not (font =? fontSize) ≡ false
+  gray : grayUnfit (r .gray) (r .overlay) (r .system .fx) ≡ false
+  narrow : (8 <? ⁅ r .system .fx ⁆) ≡ false
+  fits : (640 <? width r) ≡ false
+  even : linesOdd (r .system .ws) (r .system .lf) ≡ false
+  long : (r .system .tcr .0 <? r .system .cr .0 + 4) ≡ false
+  order : orderUnfit (r .system .ws) (r .overlay) (r .blocks) ≡ false
+  cursor : cursorUnfit (r .display .fc) (r .form) (r .system .fx) ≡ false
+  below : (⁅ r .system .lf ⁆ ≤? n) ≡ false
+  whole : not (buffer =? width r) ≡ false
 
-pub accepted : (r : Registers) → r .gray < 3 → (memory font n buffer : ℕ) → rowRefusal r memory font n buffer ≡ 0 → Composed r n buffer
+passes : (r : Registers) (memory font n buffer : ℕ) → rowRefusal r memory font n buffer ≡ 0 → Passed r memory font n buffer
 unfolding rowRefusal
-accepted r code memory font n buffer e =
+passes r memory font n buffer e =
     let p1 = passed (not (memory =? memorySize)) 0 _ e in
     let p8 = passed (not (font =? fontSize)) 7 _ (p1 .1) in
     let p9 = passed (grayUnfit (r .gray) (r .overlay) (r .system .fx)) 8 _ (p8 .1) in
@@ -67,10 +76,47 @@ accepted r code memory font n buffer e =
     let p16 = passed (⁅ r .system .lf ⁆ ≤? n) 15 _ (p15 .1) in
     let p17 = passed (not (buffer =? width r)) 16 _ (p16 .1) in
     record {
-      below = leb-false ⁅ r .system .lf ⁆ n (p16 .0);
-      whole = eqb-true buffer (width r) (not-false (buffer =? width r) (p17 .0));
-      composable = record { code = code; narrow = ltb-false 8 ⁅ r .system .fx ⁆ (p10 .0); graphics = gray-graphics r (p9 .0); order = p14 .0 };
+      memory-size = p1 .0;
+      font-size = p8 .0;
+      gray = p9 .0;
+      narrow = p10 .0;
+      fits = p11 .0;
+      even = p12 .0;
+      long = p13 .0;
+      order = p14 .0;
+      cursor = p15 .0;
+      below = p16 .0;
+      whole = p17 .0;
     }
+
+pub record Composed (r : Registers) (n buffer : ℕ) : Type 0 where
+  pub below : n < ⁅ r .system .lf ⁆
+  pub whole : buffer ≡ width r
+  pub composable : Composable r
+
+pub accepted : (r : Registers) → r .gray < 3 → (memory font n buffer : ℕ) → rowRefusal r memory font n buffer ≡ 0 → Composed r n buffer
+accepted r code memory font n buffer e =
+    let p = passes r memory font n buffer e in
+    record {
+      below = leb-false ⁅ r .system .lf ⁆ n (p .below);
+      whole = eqb-true buffer (width r) (not-false (buffer =? width r) (p .whole));
+      composable = record { code = code; narrow = ltb-false 8 ⁅ r .system .fx ⁆ (p .narrow); graphics = gray-graphics r (p .gray); order = p .order };
+    }
+
+-- the rows of a frame are accepted together
+pub other-row : (r : Registers) (memory font n k buffer : ℕ) → rowRefusal r memory font n buffer ≡ 0 → k < ⁅ r .system .lf ⁆ → rowRefusal r memory font k buffer ≡ 0
+unfolding rowRefusal
+other-row r memory font n k buffer e h =
+    let p = passes r memory font n buffer e in
+    rw (p .memory-size, p .font-size, p .gray, p .narrow, p .fits, p .even, p .long, p .order, p .cursor, lt-leb ⁅ r .system .lf ⁆ k h, p .whole)
+
+-- a row that is too wide is refused whatever its buffer
+pub wide-refused : (r : Registers) (memory font n : ℕ) → 640 < width r
+    → ((b : ℕ) → rowRefusal r memory font n b ≡ rowRefusal r memory font n (width r)) × (rowRefusal r memory font n (width r) ≡ 0 → ⊥)
+unfolding rowRefusal
+wide-refused r memory font n h =
+    let w = lt-ltb 640 (width r) h in
+    (λ b. rw w, λ e. absurd (subst T (sym w ∙ passes r memory font n (width r) e .fits) tt))
 
 -- the outcome of a row with a memory or a font of another size, of an accepted row, and of a refused one
 

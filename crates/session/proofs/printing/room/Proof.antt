@@ -1,0 +1,16 @@
+use mathlib.Core.Path.{_∙_}
+use native.Mathlib.Omega.{arith}
+use borrow.Author.Needs.{needs}
+use Rattle.session.proofs.Buffers.{written-out, has-room}
+use Rattle.session.proofs.printing.room.Statement.{statement}
+use Rattle.session.proofs.printing.room.Tie as tie
+
+pub room-spec : {M : Type 1} → statement M
+room-spec =
+    tie.close
+    (tie.spec
+    (λ c κs. search needs)
+    (λ c. search needs)
+    (λ c κs. search needs)
+    (λ c. c .flush .ensures ∙ written-out _ _ (omega (arith, c .before .if1 .taken, c .before .before .at-most .ensures .1)))
+    (λ c. has-room _ _ (omega (arith, c .if1 .left, c .before .at-most .ensures .1))))

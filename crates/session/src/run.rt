@@ -1,0 +1,212 @@
+// Records carried out on a controller.
+use crate::Output;
+use crate::Session;
+use crate::printing::at_most;
+use crate::printing::put_answer;
+use crate::printing::put_frame;
+use crate::printing::put_read;
+use crate::printing::put_row;
+use busfile::Kind;
+use model::Controller;
+use registers::Answer;
+ghost use Prim.Native.Nat.{ℕ};
+ghost use mathlib.Core.List.{List, [], _∷_, map};
+ghost use mathlib.Core.Path.{_≡_};
+ghost use lib.ListN.{length, drop, replicate};
+ghost use Rattle.row.specs.Rows.{frameSize, rowAnswer};
+ghost use Rattle.model.specs.Machine.{machine};
+ghost use Rattle.model.specs.Calls.{command, write, read};
+ghost use Rattle.session.specs.Output.{buffer, printedAll};
+ghost use Rattle.session.specs.Records.{busCalls, framed, frameLines, rowLines, state, afterCalls, afterRecord};
+
+// The command byte of a kind 1 record.
+fn run_command(s: Session, out: &mut [u8], b: u8, record: u64) -> Session
+    ensures { λ r. ⌜ ((memory : List ℕ) → state r memory (now (out .exit)) ≡ afterCalls «record» 1 (state s memory (now (out .entry))) (command b ∷ [])) ⌝ }
+{
+    let controller = s.controller;
+    let written = controller.command_write(b);
+    let controller = written.controller;
+    let answer = written.answer;
+    Session {
+        controller: controller,
+        output: put_answer(s.output, out, answer, record, 1),
+    }
+}
+
+// A data byte of a kind 1 record.
+fn run_data_byte(
+    s: Session,
+    memory: &mut [u8],
+    out: &mut [u8],
+    b: u8,
+    record: u64,
+    byte: u64,
+) -> Session
+    ensures { λ r. ⌜ state r (now (memory .exit)) (now (out .exit)) ≡ afterCalls «record» byte (state s (now (memory .entry)) (now (out .entry))) (write b ∷ []) ⌝ }
+{
+    let controller = s.controller;
+    let written = controller.data_write(memory, b);
+    let controller = written.controller;
+    let answer = written.answer;
+    Session {
+        controller: controller,
+        output: put_answer(s.output, out, answer, record, byte),
+    }
+}
+
+// The bytes of a kind 1 record behind its command byte.
+fn run_data(s: Session, memory: &mut [u8], out: &mut [u8], payload: &[u8], record: u64) -> Session
+    ensures { λ r. ⌜ state r (now (memory .exit)) (now (out .exit)) ≡ afterCalls «record» 2 (state s (now (memory .entry)) (now (out .entry))) (map write (drop 1 (now (payload .entry)))) ⌝ }
+{
+    let mut session = s;
+    let mut i: usize = 1;
+    while i < payload.len() {
+        let b = payload[i];
+        i += 1;
+        session = run_data_byte(session, memory, out, b, record, i as u64);
+    }
+    session
+}
+
+// A command byte, then its data writes.
+fn run_bus(s: Session, memory: &mut [u8], out: &mut [u8], payload: &[u8], record: u64) -> Session
+    ensures { λ r. ⌜ state r (now (memory .exit)) (now (out .exit)) ≡ afterCalls «record» 1 (state s (now (memory .entry)) (now (out .entry))) (busCalls (now (payload .entry))) ⌝ }
+{
+    if payload.len() == 0 {
+        return s;
+    }
+    let session = run_command(s, out, payload[0], record);
+    run_data(session, memory, out, payload, record)
+}
+
+fn run_read(s: Session, memory: &[u8], out: &mut [u8], record: u64, index: u64) -> Session
+    ensures { λ r. ⌜ state r (now (memory .entry)) (now (out .exit)) ≡ afterCalls «record» index (state s (now (memory .entry)) (now (out .entry))) (read ∷ []) ⌝ }
+{
+    let controller = s.controller;
+    let read = controller.data_read(memory);
+    let controller = read.controller;
+    let answer = read.answer;
+    Session {
+        controller: controller,
+        output: put_read(s.output, out, answer, record, index),
+    }
+}
+
+// A count of reads.
+fn run_reads(s: Session, memory: &[u8], out: &mut [u8], count: u16, record: u64) -> Session
+    ensures { λ r. ⌜ state r (now (memory .entry)) (now (out .exit)) ≡ afterCalls «record» 1 (state s (now (memory .entry)) (now (out .entry))) (replicate count read) ⌝ }
+{
+    let mut session = s;
+    let mut i: u16 = 0;
+    while i < count {
+        i += 1;
+        session = run_read(session, memory, out, record, i as u64);
+    }
+    session
+}
+
+// The rows of a frame whose first row is accepted.
+fn show_rows(
+    controller: Controller,
+    memory: &[u8],
+    font: &[u8],
+    o: Output,
+    out: &mut [u8],
+    row: &mut [u8],
+    frame: u32,
+    rows: u16,
+) -> Output
+    requires { ⌜ rows ≡ frameSize (controller .registers) .rows .0 ⌝ }
+    requires { ⌜ rowAnswer (controller .registers) (now memory) (now font) frame 0 (length (now row)) .refusal ≡ 0 ⌝ }
+    ensures { λ r. ⌜ buffer (now (out .exit)) (r .used) ≡ printedAll (buffer (now (out .entry)) (o .used)) (rowLines (λ n. rowAnswer (controller .registers) (now (memory .entry)) (now (font .entry)) frame n (length (now (row .entry)))) 0 rows) ⌝ }
+{
+    let mut o = o;
+    let mut n: u16 = 0;
+    while n < rows {
+        controller.row(memory, font, frame, n as u32, row);
+        o = put_row(o, out, row);
+        n += 1;
+    }
+    o
+}
+
+// A frame in a buffer of its width, or the refusal of its first row: its other rows get the same.
+fn show_frame(
+    controller: Controller,
+    memory: &[u8],
+    font: &[u8],
+    o: Output,
+    out: &mut [u8],
+    row: &mut [u8],
+    frame: u32,
+    rows: u16,
+    record: u64,
+) -> Output
+    requires { ⌜ rows ≡ frameSize (controller .registers) .rows .0 ⌝ }
+    ensures { λ r. ⌜ buffer (now (out .exit)) (r .used) ≡ printedAll (buffer (now (out .entry)) (o .used)) (framed «record» frame (length (now (row .entry))) rows (λ n. rowAnswer (controller .registers) (now (memory .entry)) (now (font .entry)) frame n (length (now (row .entry))))) ⌝ }
+{
+    let answer = controller.row(memory, font, frame, 0, row);
+    match answer {
+        Answer::Refused(_) => put_answer(o, out, answer, record, 0),
+        Answer::Accepted => {
+            let o = put_frame(o, out, record, frame, row.len(), rows);
+            show_rows(controller, memory, font, o, out, row, frame, rows)
+        }
+    }
+}
+
+// A frame number to show. One wider than any row has its rows refused before the buffer is looked at.
+fn show(
+    controller: Controller,
+    memory: &[u8],
+    font: &[u8],
+    o: Output,
+    out: &mut [u8],
+    frame: u32,
+    record: u64,
+) -> Output
+    ensures { λ r. ⌜ buffer (now (out .exit)) (r .used) ≡ printedAll (buffer (now (out .entry)) (o .used)) (frameLines «record» (machine controller (now (memory .entry))) (now (font .entry)) frame) ⌝ }
+{
+    let mut row = [0u8; 640];
+    let size = row::frame_size(controller.registers);
+    let rows = size.rows;
+    let width = at_most(size.width, &row);
+    show_frame(
+        controller,
+        memory,
+        font,
+        o,
+        out,
+        &mut row[..width],
+        frame,
+        rows.0,
+        record,
+    )
+}
+
+// Carries one record out.
+pub fn run_record(
+    s: Session,
+    memory: &mut [u8],
+    font: &[u8],
+    out: &mut [u8],
+    kind: Kind,
+    payload: &[u8],
+    record: u64,
+) -> Session
+    ensures { λ r. ⌜ state r (now (memory .exit)) (now (out .exit)) ≡ afterRecord «record» (now (font .entry)) kind (now (payload .entry)) (state s (now (memory .entry)) (now (out .entry))) ⌝ }
+{
+    match kind {
+        Kind::Bus => run_bus(s, memory, out, payload, record),
+        Kind::Reads => run_reads(s, memory, out, busfile::word(payload), record),
+        Kind::Frame => {
+            let frame = busfile::double_word(payload);
+            let controller = s.controller;
+            let o = show(controller, memory, font, s.output, out, frame, record);
+            Session {
+                controller: controller,
+                output: o,
+            }
+        }
+    }
+}

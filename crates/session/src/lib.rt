@@ -2,11 +2,11 @@
 mod printing;
 mod run;
 
+use model::Controller;
 pub use printing::flush;
 pub use printing::put_bad;
 pub use printing::put_end;
 pub use run::run_record;
-use model::Controller;
 
 // How many bytes of the output buffer are used, and whether standard output still takes them.
 pub struct Output {

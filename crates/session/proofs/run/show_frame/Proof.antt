@@ -12,7 +12,7 @@ use Rattle.session.proofs.run.show_frame.Tie as tie
 -- the first row, where it is accepted
 first-row : (t : tie.After-enum-told2)
     → let a = t .before .before .before .before .before .before .before .before .before .before .args in
-      rowAnswer (a .controller .registers) (a .memory .now) (a .font .now) (a .frame) 0 (length (a .row .now)) .refusal ≡ 0
+    rowAnswer (a .controller .registers) (a .memory .now) (a .font .now) (a .frame) 0 (length (a .row .now)) .refusal ≡ 0
 first-row t =
     let w = t .before .before .before .before in
     let a = w .before .before .before .before .before .before .args in

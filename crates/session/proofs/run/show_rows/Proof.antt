@@ -15,7 +15,7 @@ abbrev Inv-loop : tie.InvT-loop
 Inv-loop controller memory font out₀ row₀ frame rows o₀ n₀ out row o n =
     (n ≤ rows) × (length out ≡ length out₀) × (length row ≡ length row₀)
     × (printedAll (buffer out (o .used)) (rowLines (λ n. rowAnswer (controller .registers) memory font frame n (length row₀)) n (rows - n))
-      ≡ printedAll (buffer out₀ (o₀ .used)) (rowLines (λ n. rowAnswer (controller .registers) memory font frame n (length row₀)) 0 rows))
+    ≡ printedAll (buffer out₀ (o₀ .used)) (rowLines (λ n. rowAnswer (controller .registers) memory font frame n (length row₀)) 0 rows))
 
 abbrev μ-loop : tie.MeasureT-loop
 μ-loop controller memory font out₀ row₀ frame rows o₀ n₀ out row o n = rows - n

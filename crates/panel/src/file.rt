@@ -1,16 +1,6 @@
-// A bus file, record by record. It is read in parts, so that a file of any length runs in the same memory.
-use crate::output::Output;
-use crate::output::flush;
-use crate::output::put_bad;
-use crate::output::put_end;
-use crate::run::Session;
-use crate::run::run_bus;
-use crate::run::run_reads;
-use crate::run::show;
-use busfile::Found;
-use busfile::Kind;
+// A bus file from standard input. It is read in parts, so that a file of any length runs in the same memory.
 use libc::STDIN_FILENO;
-use model::Controller;
+use session::Step;
 ghost use Prim.Native.Nat.{_+_, _≤_};
 ghost use mathlib.Core.Bool.{true};
 ghost use mathlib.Core.Logic.{_⊎_};
@@ -18,16 +8,14 @@ ghost use mathlib.Core.Path.{_≡_};
 ghost use lib.ListN.{length};
 ghost use Rattle.busfile.specs.Parts.{longest};
 
-// Where the file is: its bytes from at to filled are in the input buffer, and ended says that no more come.
-pub struct Progress {
+// The part of the file that is in the input buffer: its bytes from at to filled, and ended says that no more come.
+pub struct Part {
     pub at: usize,
     pub filled: usize,
     pub ended: bool,
-    pub records: u64,
-    pub going: bool,
 }
 
-// Buffers: display memory as it starts, a font and a byte more, two records, and the widest row.
+// Buffers: display memory as it starts, a font and a byte more, and two records.
 pub fn display_memory() -> [u8; 32768]
     ensures { λ r. ⌜ 32768 ≡ length r ⌝ }
 {
@@ -44,12 +32,6 @@ pub fn input_buffer() -> [u8; 131072]
     ensures { λ r. ⌜ 131072 ≡ length r ⌝ }
 {
     [0; 131072]
-}
-
-pub fn row_buffer() -> [u8; 640]
-    ensures { λ r. ⌜ 640 ≡ length r ⌝ }
-{
-    [0; 640]
 }
 
 // The font file's bytes. One that cannot be read counts as empty.
@@ -77,7 +59,7 @@ fn read_on(input: &mut [u8], kept: usize) -> usize {
 }
 
 // Reads on where the next record may not be whole: then the file has ended, or its longest record would be.
-fn fill(p: Progress, input: &mut [u8]) -> Progress
+fn fill(p: Part, input: &mut [u8]) -> Part
     ensures { λ r. ⌜ (longest ≤ length (now (input .entry)) → (r .ended ≡ true) ⊎ (r .at + longest ≤ r .filled)) ⌝ }
 {
     if p.ended {
@@ -90,156 +72,64 @@ fn fill(p: Progress, input: &mut [u8]) -> Progress
     }
     let kept = busfile::compact(input, at, filled);
     let total = read_on(input, kept);
-    Progress {
+    Part {
         at: 0,
         filled: total,
         ended: total < input.len(),
-        records: p.records,
-        going: p.going,
     }
 }
 
-// Carries one record out.
-fn run_record(
-    s: Session,
-    memory: &mut [u8],
-    font: &[u8],
-    out: &mut [u8],
-    row: &mut [u8],
-    kind: Kind,
-    payload: &[u8],
-    record: u64,
-) -> Session {
-    match kind {
-        Kind::Bus => run_bus(s, memory, out, payload, record),
-        Kind::Reads => run_reads(s, memory, out, busfile::word(payload), record),
-        Kind::Frame => {
-            let frame = busfile::double_word(payload);
-            let o = show(
-                s.controller,
-                memory,
-                font,
-                s.output,
-                out,
-                row,
-                frame,
-                record,
-            );
-            s.printed(o)
-        }
-    }
+// A step, the part of the file that it was made in, and whether there is more to do.
+pub struct Run {
+    pub step: Step,
+    pub filled: usize,
+    pub ended: bool,
+    pub going: bool,
 }
 
-// The next record, where there is one.
-fn run_next(
-    p: Progress,
-    s: Session,
-    memory: &mut [u8],
-    font: &[u8],
-    input: &[u8],
-    out: &mut [u8],
-    row: &mut [u8],
-) -> Step {
-    let at = p.at;
-    let record = std::num::wrapping_add_u64(p.records, 1);
+// Reads on, and carries the next record out. A closed output stops the file.
+fn turn(run: Run, memory: &mut [u8], font: &[u8], input: &mut [u8], out: &mut [u8]) -> Run {
+    let step = run.step;
+    let p = fill(
+        Part {
+            at: step.at,
+            filled: run.filled,
+            ended: run.ended,
+        },
+        input,
+    );
     let file = busfile::part(input, 0, p.filled);
-    let found = busfile::found_at(file, at);
-    if let Found::End = found {
-        return Step {
-            progress: p.stopped(),
-            session: s,
-        };
+    let after = session::next(step.session, memory, font, out, file, p.at, step.good);
+    Run {
+        step: after,
+        filled: p.filled,
+        ended: p.ended,
+        going: after.more && after.session.output.open,
     }
-    let Found::Record(r) = found else {
-        let o = put_bad(s.output, out, record);
-        return Step {
-            progress: p.stopped(),
-            session: s.printed(o),
-        };
-    };
-    let payload = busfile::part(file, r.start, r.end);
-    let kind = r.kind;
-    let session = run_record(s, memory, font, out, row, kind, payload, record);
-    let o = session.output;
-    Step {
-        progress: p.after(r.end, o.open),
-        session: session,
-    }
-}
-
-impl Progress {
-    fn stopped(mut self) -> Progress {
-        self.going = false;
-        self
-    }
-
-    // After a good record that ended at a place. A closed output stops the file.
-    fn after(mut self, at: usize, open: bool) -> Progress {
-        self.at = at;
-        self.going = open;
-        self.records = std::num::wrapping_add_u64(self.records, 1);
-        self
-    }
-}
-
-// Where the file is after a record, and what it left.
-pub struct Step {
-    pub progress: Progress,
-    pub session: Session,
-}
-
-// Reads on, and carries the next record out.
-fn turn(
-    step: Step,
-    memory: &mut [u8],
-    font: &[u8],
-    input: &mut [u8],
-    out: &mut [u8],
-    row: &mut [u8],
-) -> Step {
-    let p = fill(step.progress, input);
-    run_next(p, step.session, memory, font, input, out, row)
 }
 
 // All records. The loop counts its turns down from a number that no run uses up.
-fn run_records(
-    memory: &mut [u8],
-    font: &[u8],
-    input: &mut [u8],
-    out: &mut [u8],
-    row: &mut [u8],
-) -> Step {
-    let mut step = Step {
-        progress: Progress {
-            at: 0,
-            filled: 0,
-            ended: false,
-            records: 0,
-            going: true,
-        },
-        session: Session {
-            controller: Controller::reset(),
-            output: Output {
-                used: 0,
-                open: true,
-            },
-        },
+fn run_records(memory: &mut [u8], font: &[u8], input: &mut [u8], out: &mut [u8]) -> Step {
+    let mut run = Run {
+        step: session::start(),
+        filled: 0,
+        ended: false,
+        going: true,
     };
     let mut turns = u64::MAX;
     while turns > 0 {
         turns -= 1;
-        step = turn(step, memory, font, input, out, row);
-        let progress = step.progress;
-        if !progress.going {
-            return step;
+        run = turn(run, memory, font, input, out);
+        if !run.going {
+            return run.step;
         }
     }
-    step
+    run.step
 }
 
 // All records, and the line that ends the output.
-pub fn run_file(memory: &mut [u8], font: &[u8], input: &mut [u8], out: &mut [u8], row: &mut [u8]) {
-    let last = run_records(memory, font, input, out, row);
-    let o = put_end(last.session.output, out, last.progress.records);
-    flush(o, out);
+pub fn run_file(memory: &mut [u8], font: &[u8], input: &mut [u8], out: &mut [u8]) {
+    let last = run_records(memory, font, input, out);
+    let o = session::put_end(last.session.output, out, last.good);
+    session::flush(o, out);
 }

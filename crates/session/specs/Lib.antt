@@ -1,3 +1,4 @@
 pub mod Output
 pub mod Records
+pub mod File
 pub mod Stream

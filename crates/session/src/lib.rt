@@ -1,12 +1,13 @@
-// A controller that the records of a bus file are carried out on, and the lines that they print.
+// The records of a bus file carried out on a controller, and the lines that they print.
+mod file;
 mod printing;
 mod run;
 
+pub use file::next;
+pub use file::start;
 use model::Controller;
 pub use printing::flush;
-pub use printing::put_bad;
 pub use printing::put_end;
-pub use run::run_record;
 
 // How many bytes of the output buffer are used, and whether standard output still takes them.
 pub struct Output {
@@ -18,4 +19,12 @@ pub struct Output {
 pub struct Session {
     pub controller: Controller,
     pub output: Output,
+}
+
+// After a record: where the next one stands, how many were good, and whether the file goes on.
+pub struct Step {
+    pub session: Session,
+    pub at: usize,
+    pub good: u64,
+    pub more: bool,
 }

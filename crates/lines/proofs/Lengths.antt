@@ -36,17 +36,21 @@ numbers-length text [] h = omega arith
 numbers-length text (n ∷ ns) h =
     omega (arith, numbers-length (text ++ number n) ns (h .1), length-append text (number n), number-length n (h .0))
 
-row-length : (dots : List ℕ) → length (rowLine dots) ≡ length dots + 1
+pub row-length : (dots : List ℕ) → length (rowLine dots) ≡ length dots + 1
 unfolding rowLine
 row-length dots = rw (length-append, length-map)
 
--- a line with its name, at most four numbers and an end stands in a buffer that has room for the longest
+-- a line with its name, at most four numbers and an end is no longer than the longest
+pub line-length : (name ns end : List ℕ) → Small ns → (length name ≤ 7) × (length ns ≤ 4) × (length end ≤ 4) → length (withNumbers name ns ++ end) ≤ longestLine
+line-length name ns end small short =
+    omega (arith, numbers-length name ns small, length-append (withNumbers name ns) end, short .0, short .1, short .2)
+
+-- it stands in a buffer that has room for the longest
 pub printed : (buffer : List ℕ) (used : ℕ) (name ns end : List ℕ) → Small ns → (length name ≤ 7) × (length ns ≤ 4) × (length end ≤ 4) → used + longestLine ≤ length buffer
     → {r : ℕ} {b : List ℕ} → (r ≡ usedAfter buffer used (withNumbers name ns ++ end)) × (b ≡ appended buffer used (withNumbers name ns ++ end))
     → EndWith b r (withNumbers name ns ++ end)
 printed buffer used name ns end small short room e =
-    ends buffer used (withNumbers name ns ++ end)
-    (omega (arith, numbers-length name ns small, length-append (withNumbers name ns) end, short .0, short .1, short .2)) e
+    ends buffer used (withNumbers name ns ++ end) (omega (arith, line-length name ns end small short)) e
 
 pub row-printed : (buffer : List ℕ) (used : ℕ) (dots : List ℕ) → length dots < longestLine → used + longestLine ≤ length buffer
     → {r : ℕ} {b : List ℕ} → (r ≡ usedAfter buffer used (rowLine dots)) × (b ≡ appended buffer used (rowLine dots)) → EndWith b r (rowLine dots)

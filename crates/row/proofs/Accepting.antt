@@ -1,5 +1,5 @@
 -- What an accepted row has, and what a row leaves.
-use Prim.Native.Nat.{ℕ, suc, _+_, _<_}
+use Prim.Native.Nat.{ℕ, suc, _+_, _<_, _≤_}
 use mathlib.Core.Bool.{Bool, true, false, not, _&&_}
 use mathlib.Core.List.{List}
 use mathlib.Core.Path.{_≡_, refl, sym, _∙_, subst}
@@ -102,6 +102,10 @@ accepted r code memory font n buffer e =
       whole = eqb-true buffer (width r) (not-false (buffer =? width r) (p .whole));
       composable = record { code = code; narrow = ltb-false 8 ⁅ r .system .fx ⁆ (p .narrow); graphics = gray-graphics r (p .gray); order = p .order };
     }
+
+-- an accepted row has at most 640 dots
+pub accepted-width : (r : Registers) (memory font n buffer : ℕ) → rowRefusal r memory font n buffer ≡ 0 → width r ≤ 640
+accepted-width r memory font n buffer e = ltb-false 640 (width r) (passes r memory font n buffer e .fits)
 
 -- the rows of a frame are accepted together
 pub other-row : (r : Registers) (memory font n k buffer : ℕ) → rowRefusal r memory font n buffer ≡ 0 → k < ⁅ r .system .lf ⁆ → rowRefusal r memory font k buffer ≡ 0

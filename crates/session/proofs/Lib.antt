@@ -1,3 +1,5 @@
 pub mod Buffers
 pub mod Calls
 pub mod Frames
+pub mod Short
+pub mod Stream

@@ -2,3 +2,4 @@ pub mod Output
 pub mod Records
 pub mod File
 pub mod Stream
+pub mod Program

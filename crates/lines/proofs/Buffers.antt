@@ -1,12 +1,11 @@
 -- A text in a buffer: where it does not fit, and where it does.
-use Prim.Native.Nat.{ℕ, _+_, _-_, _<_, _≤_}
+use Prim.Native.Nat.{ℕ, _+_, _<_, _≤_}
 use mathlib.Core.List.{List, _++_, append-assoc}
-use mathlib.Core.Path.{_≡_, sym, _∙_}
-use native.Mathlib.Omega.{arith}
+use mathlib.Core.Path.{_≡_}
 use lib.ListN.{length, take, drop, length-append}
-use lib.Seq.{length-take-le, take-at, drop-at}
+use lib.Seq.{length-take-le, take-at}
 use borrow.Author.Tests.{le-leb, lt-leb}
-use Rattle.lines.specs.Lines.{appended, usedAfter, EndWith}
+use Rattle.lines.specs.Lines.{appended, usedAfter}
 
 module _ (buffer : List ℕ) (used : ℕ) (text : List ℕ) where
   pub left-out : length buffer < used + length text → (used ≡ usedAfter buffer used text) × (buffer ≡ appended buffer used text)
@@ -19,10 +18,3 @@ module _ (buffer : List ℕ) (used : ℕ) (text : List ℕ) where
 
   pub front : (rest : List ℕ) → used ≤ length buffer → take (used + length text) (take used buffer ++ (text ++ rest)) ≡ take used buffer ++ text
   front rest h = rw (← append-assoc) (take-at (take used buffer ++ text) rest (used + length text) (rw (length-append, length-take-le used buffer)))
-
-  pub ends : used + length text ≤ length buffer → {r : ℕ} {b : List ℕ} → (r ≡ usedAfter buffer used text) × (b ≡ appended buffer used text) → EndWith b r text
-  ends h e =
-      let s = stands h in
-      let back : used + length text - length text ≡ used = omega arith in
-      rw (e .0 ∙ sym (s .0), e .1 ∙ sym (s .1), front (drop (used + length text) buffer) (omega arith), back)
-      (drop-at (take used buffer) text used (length-take-le used buffer (omega arith)))

@@ -1,4 +1,4 @@
--- No line is left out: how long each is, and that it stands in a buffer with room for the longest.
+-- How long lines are.
 use Prim.Native.Nat.{ℕ, zero, suc, _+_, _*_, _/_, _%_, _^_, _<_, _≤_}
 use mathlib.Core.Bool.{Bool, true, false}
 use mathlib.Core.List.{List, [], _∷_, _++_}
@@ -8,8 +8,7 @@ use native.Mathlib.Omega.{arith}
 use lib.ListN.{length, length-append, length-map}
 use borrow.Author.Tests.{ltb-false}
 use Rattle.registers.specs.Choice.{if_then_else_, _<?_}
-use Rattle.lines.specs.Lines.{digit, decimalBelow, number, withNumbers, rowLine, appended, usedAfter, EndWith, longestLine}
-use Rattle.lines.proofs.Buffers.{ends}
+use Rattle.lines.specs.Lines.{digit, decimalBelow, number, withNumbers, rowLine, longestLine}
 
 decimal-length : (k n j : ℕ) → n < 10 ^ suc j → length (decimalBelow k n) ≤ suc j
 unfolding decimalBelow
@@ -44,14 +43,3 @@ row-length dots = rw (length-append, length-map)
 pub line-length : (name ns end : List ℕ) → Small ns → (length name ≤ 7) × (length ns ≤ 4) × (length end ≤ 4) → length (withNumbers name ns ++ end) ≤ longestLine
 line-length name ns end small short =
     omega (arith, numbers-length name ns small, length-append (withNumbers name ns) end, short .0, short .1, short .2)
-
--- it stands in a buffer that has room for the longest
-pub printed : (buffer : List ℕ) (used : ℕ) (name ns end : List ℕ) → Small ns → (length name ≤ 7) × (length ns ≤ 4) × (length end ≤ 4) → used + longestLine ≤ length buffer
-    → {r : ℕ} {b : List ℕ} → (r ≡ usedAfter buffer used (withNumbers name ns ++ end)) × (b ≡ appended buffer used (withNumbers name ns ++ end))
-    → EndWith b r (withNumbers name ns ++ end)
-printed buffer used name ns end small short room e =
-    ends buffer used (withNumbers name ns ++ end) (omega (arith, line-length name ns end small short)) e
-
-pub row-printed : (buffer : List ℕ) (used : ℕ) (dots : List ℕ) → length dots < longestLine → used + longestLine ≤ length buffer
-    → {r : ℕ} {b : List ℕ} → (r ≡ usedAfter buffer used (rowLine dots)) × (b ≡ appended buffer used (rowLine dots)) → EndWith b r (rowLine dots)
-row-printed buffer used dots short room e = ends buffer used (rowLine dots) (omega (arith, row-length dots)) e

@@ -1,9 +1,8 @@
 -- 01, 'Bus file and its program': the lines that the program prints, as bytes, and how they stand in a buffer.
 use Prim.Native.Char.{code}
-use Prim.Native.Nat.{ℕ, zero, suc, _+_, _-_, _/_, _%_}
+use Prim.Native.Nat.{ℕ, zero, suc, _+_, _/_, _%_}
 use Prim.Native.String.{String, [] as none, _∷_ as _then_}
 use mathlib.Core.List.{List, [], _∷_, _++_, map}
-use mathlib.Core.Path.{_≡_}
 use lib.ListN.{length, getD, take, drop}
 use Rattle.registers.specs.Choice.{if_then_else_, _<?_, _≤?_}
 
@@ -67,10 +66,6 @@ appended buffer used text =
 -- how many are used then
 abbrev pub usedAfter : List ℕ → ℕ → List ℕ → ℕ
 usedAfter buffer used text = if used + length text ≤? length buffer then used + length text else used
-
--- the used bytes of a buffer end with a text
-abbrev pub EndWith : List ℕ → ℕ → List ℕ → Type 0
-EndWith buffer used text = drop (used - length text) (take used buffer) ≡ text
 
 -- the longest line that is printed: a row of 640 dots and its end
 abbrev pub longestLine : ℕ

@@ -1,4 +1,3 @@
-use mathlib.Core.List.{[], _∷_}
 use borrow.Author.Tests.{ne-eqb}
 use borrow.Author.Needs.{needs}
 use Rattle.registers.proofs.Numbers.{number-not-0}

@@ -1,4 +1,4 @@
-use Prim.Native.Nat.{ℕ, zero-le, _+_, _-_, _≤_}
+use Prim.Native.Nat.{ℕ, _+_, _-_}
 use mathlib.Core.Path.{_≡_, refl, ap, _∙_}
 use native.Mathlib.Nat.{sub-zero}
 use native.Mathlib.Omega.{arith}
@@ -12,42 +12,11 @@ use Rattle.session.proofs.run.run_reads.Tie as tie
 
 abbrev Inv-loop : tie.InvT-loop
 Inv-loop memory out₀ count «record» session₀ i₀ out session i =
-    (i ≤ count) × (length out ≡ length out₀)
-    × (afterCalls «record» (i + 1) (state session memory out) (replicate (count - i) read) ≡ afterCalls «record» 1 (state session₀ memory out₀) (replicate count read))
+    (afterCalls «record» (i + 1) (state session memory out) (replicate (count - i) read) ≡ afterCalls «record» 1 (state session₀ memory out₀) (replicate count read))
+    × (length out ≡ length out₀)
 
 abbrev μ-loop : tie.MeasureT-loop
 μ-loop memory out₀ count «record» session₀ i₀ out session i = count - i
-
-loop-holds : tie.Need-loop-holds Inv-loop μ-loop
-loop-holds c = (zero-le, refl, rw sub-zero)
-
-add-i : tie.Need-add-i Inv-loop μ-loop
-add-i c = search needs
-
-cast-run-read : tie.Need-cast-run-read Inv-loop μ-loop
-cast-run-read c = search needs
-
-run-read-requires : tie.Need-run-read-requires Inv-loop μ-loop
-run-read-requires c κs = search needs
-
-loop-less : tie.Need-loop-less Inv-loop μ-loop
-loop-less c = search needs
-
-loop-again : tie.Need-loop-again Inv-loop μ-loop
-loop-again c =
-    let r = c .before .before in
-    let t = r .before .before in
-    let l = t .before in
-    (search needs, search needs, read-more _ _ _ _ (t .loop-test .taken) (r .run-read .ensures) ∙ l .loop .inv .2)
-
-same-length : tie.Need-same-length Inv-loop μ-loop
-same-length c = search needs
-
-returns : tie.Need-returns Inv-loop μ-loop
-returns c =
-    let l = c .before .loop in
-    let none : c .before .before .before .before .args .count - l .i ≡ 0 = omega arith in
-    no-calls _ _ _ _ (ap (λ (n : ℕ). replicate n read) none) ∙ l .inv .2
 
 pub run-reads-spec : {M : Type 1} → statement M
 run-reads-spec =
@@ -55,11 +24,17 @@ run-reads-spec =
     (tie.spec
     Inv-loop
     μ-loop
-    loop-holds
-    add-i
-    cast-run-read
-    run-read-requires
-    loop-less
-    loop-again
-    same-length
-    returns)
+    (λ c. (rw sub-zero, refl))
+    (λ c. search needs)
+    (λ c. search needs)
+    (λ c κs. search needs)
+    (λ c. search needs)
+    (λ c.
+    let r = c .before .before in
+    let t = r .before .before in
+    (read-more _ _ _ _ (t .loop-test .taken) (r .run-read .ensures) ∙ t .before .loop .inv .0, search needs))
+    (λ c. search needs)
+    (λ c.
+    let l = c .before .loop in
+    let none : c .before .before .before .before .args .count - l .i ≡ 0 = omega arith in
+    no-calls _ _ _ _ (ap (λ (n : ℕ). replicate n read) none) ∙ l .inv .0))

@@ -1,8 +1,4 @@
-use Prim.Native.Nat.{ℕ}
-use mathlib.Core.Path.{_≡_, ap, _∙_}
-use lib.ListN.{replicate}
 use borrow.Author.Needs.{needs}
-use Rattle.model.specs.Calls.{read}
 use Rattle.session.proofs.run.run_record.Statement.{statement}
 use Rattle.session.proofs.run.run_record.Tie as tie
 

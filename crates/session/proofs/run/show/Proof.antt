@@ -1,5 +1,5 @@
-use Prim.Native.Nat.{ℕ, min}
-use mathlib.Core.Path.{_≡_, sym, ap, _∙_}
+use Prim.Native.Nat.{min}
+use mathlib.Core.Path.{sym, ap, _∙_}
 use borrow.Author.Needs.{needs}
 use Rattle.row.specs.declared.FrameSize.{FrameSize}
 use Rattle.session.proofs.Frames.{in-640}

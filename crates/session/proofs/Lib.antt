@@ -1,5 +1,6 @@
 pub mod Buffers
 pub mod Calls
+mod Example
 pub mod Frames
 pub mod Short
 pub mod Stream

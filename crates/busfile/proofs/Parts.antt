@@ -8,18 +8,16 @@ use native.Mathlib.Nat.{add-assoc}
 use native.Mathlib.Omega.{arith}
 use lib.ListN.{length, drop, length-append, length-drop, List·getD-append}
 use lib.Seq.{drop-append-add, drop-append-le, take-append-le}
-use borrow.Author.Tests.{ltb-false, le-ltb, ne-eqb}
+use borrow.Author.Tests.{ltb-false, le-ltb}
 use Rattle.registers.specs.Choice.{if_then_else_, _<?_, _=?_}
 use Rattle.busfile.specs.declared.Record as R
 use Rattle.busfile.specs.declared.Shape.{Shape}
 use Rattle.busfile.specs.declared.Shape.the-variants.{Good, Wrong}
 use Rattle.busfile.specs.declared.Found.{Found}
-use Rattle.busfile.specs.declared.Found.the-variants.{Record, Bad}
+use Rattle.busfile.specs.declared.Found.the-variants.{Record}
 use Rattle.busfile.specs.Records.{wordOf, shapeOf, bodyOf, recordAt, partOf}
 use Rattle.busfile.specs.Parts.{further, longest, PartsSuffice}
-
-abbrev shapeAt : List ℕ → ℕ → Shape
-shapeAt l at = shapeOf (wordOf (drop (at + 2) l)) (wordOf (drop at l))
+use Rattle.busfile.proofs.Ends.{shapeAt, header, body-ends}
 
 -- Bytes before
 
@@ -63,12 +61,6 @@ part-same : (part after : List ℕ) (start end : ℕ) → start ≤ end → end 
 part-same part after start end h room =
     rw (drop-append-le start part after (omega arith), take-append-le (end - start) (drop start part) after (rw length-drop (omega arith)))
 
--- what stands at a whole header
-header : (l : List ℕ) (at : ℕ) → at + 4 ≤ length l → recordAt l at ≡ bodyOf (shapeAt l at) (length l) at (wordOf (drop at l))
-unfolding recordAt
-header l at h =
-    rw (ne-eqb (length l - at) 0 (λ e. let z : length l - at ≡ 0 = e in omega arith), le-ltb (length l - at) 4 (omega arith))
-
 -- none is cut where the longest would not be
 body-same : (n m at kind size : ℕ) → at + longest ≤ n → bodyOf (shapeOf kind size) n at size ≡ bodyOf (shapeOf kind size) (n + m) at size
 unfolding shapeOf
@@ -81,22 +73,6 @@ body-same n m at kind size h = go (65532 <? size) refl
     go : (over : Bool) → (65532 <? size) ≡ over → bodyOf (shapeOf kind size) n at size ≡ bodyOf (shapeOf kind size) (n + m) at size
     go true e = rw e
     go false e = whole (shapeOf kind size) (ltb-false 65532 size e)
-
--- one that was found ends within its list
-body-ends : (shape : Shape) (n at size : ℕ) (r : R.Record) → at + 4 ≤ n → bodyOf shape n at size ≡ Record r
-    → (r .start ≤ r .end) × (r .end ≤ n)
-body-ends Wrong n at size r h e = absurd (let z : _≡_ {A = ℕ} 0 1 = cc in omega arith)
-body-ends (Good kind) n at size r h e = go (n - (at + 4) <? size) refl e
-  where
-    go : (cut : Bool) → (n - (at + 4) <? size) ≡ cut
-        → (if cut then Bad else Record (record { kind = kind; start = at + 4; end = at + 4 + size })) ≡ Record r
-        → (r .start ≤ r .end) × (r .end ≤ n)
-    go true t e = absurd (let z : _≡_ {A = ℕ} 0 1 = cc in omega arith)
-    go false t e =
-        let fits : size ≤ n - (at + 4) = ltb-false (n - (at + 4)) size t in
-        let start : r .start ≡ at + 4 = cc in
-        let end : r .end ≡ at + 4 + size = cc in
-        (omega arith, omega arith)
 
 -- the same record and payload with the bytes after the part
 abbrev Same : List ℕ → List ℕ → ℕ → Type 0
@@ -117,7 +93,7 @@ long part after at h =
           ∙ rw (shape, size, ← length-append part after) (sym there),
       λ r found.
           let ends = body-ends (shapeAt part at) (length part) at (wordOf (drop at part)) r (omega arith) (sym here ∙ found) in
-          part-same part after (r .start) (r .end) (ends .0) (ends .1),
+          part-same part after (r .start) (r .end) (omega arith) (ends .2),
     )
 
 pub parts-suffice : PartsSuffice

@@ -1,6 +1,8 @@
 pub mod Buffers
+pub mod Bytes
 pub mod Calls
 mod Example
 pub mod Frames
+pub mod Program
 pub mod Short
 pub mod Stream

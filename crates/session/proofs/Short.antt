@@ -29,7 +29,7 @@ use Rattle.session.specs.Records.{busCalls, writeLines, readLines, callL
 use Rattle.session.specs.Stream.{Short, LinesShort}
 
 -- what both cases have, a choice has
-choose : {A : Type 0} (P : A → Type 0) (b : Bool) (x y : A) → (b ≡ true → P x) → (b ≡ false → P y) → P (if b then x else y)
+pub choose : {A : Type 0} (P : A → Type 0) (b : Bool) (x y : A) → (b ≡ true → P x) → (b ≡ false → P y) → P (if b then x else y)
 choose P true x y p q = p refl
 choose P false x y p q = q refl
 
@@ -67,7 +67,7 @@ call-short r k (command b) = write-short r k
 call-short r k (write b) = write-short r k
 call-short r k read = read-short r k
 
-both-short : (xs ys : List (List ℕ)) → All Short xs → All Short ys → All Short (xs ++ ys)
+pub both-short : (xs ys : List (List ℕ)) → All Short xs → All Short ys → All Short (xs ++ ys)
 both-short [] ys p q = q
 both-short (x ∷ xs) ys p q = (p .0, both-short xs ys (p .1) q)
 

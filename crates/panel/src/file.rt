@@ -5,7 +5,8 @@ ghost use Prim.Native.Nat.{_+_, _≤_};
 ghost use mathlib.Core.Bool.{true};
 ghost use mathlib.Core.Logic.{_⊎_};
 ghost use mathlib.Core.Path.{_≡_};
-ghost use lib.ListN.{length};
+ghost use lib.ListN.{length, replicate};
+ghost use Rattle.registers.specs.Sizes.{memorySize};
 ghost use Rattle.busfile.specs.Parts.{longest};
 
 // The part of the file that is in the input buffer: its bytes from at to filled, and ended says that no more come.
@@ -15,26 +16,28 @@ pub struct Part {
     pub ended: bool,
 }
 
-// Buffers: display memory as it starts, a font and a byte more, and two records.
+// Cleared display memory.
 pub fn display_memory() -> [u8; 32768]
-    ensures { λ r. ⌜ 32768 ≡ length r ⌝ }
+    ensures { λ r. ⌜ r ≡ replicate memorySize 0 ⌝ }
 {
     [0; 32768]
 }
 
+// Room for a font and a byte more: a longer file is no font.
 pub fn font_buffer() -> [u8; 1281]
     ensures { λ r. ⌜ 1281 ≡ length r ⌝ }
 {
     [0; 1281]
 }
 
+// Room for two records of any length.
 pub fn input_buffer() -> [u8; 131072]
     ensures { λ r. ⌜ 131072 ≡ length r ⌝ }
 {
     [0; 131072]
 }
 
-// The font file's bytes. One that cannot be read counts as empty.
+// Reads the font file. One that cannot be opened counts as empty, and what came of one that fails midway is no font either.
 pub fn read_font(font: &mut [u8]) -> usize {
     let file = os::open_read(b"font.bin");
     if file < 0 {
@@ -58,7 +61,7 @@ fn read_on(input: &mut [u8], kept: usize) -> usize {
     input.len()
 }
 
-// Reads on where the next record may not be whole: then the file has ended, or its longest record would be.
+// Reads on, unless the longest record would be whole. After it, that would be whole, or the file has ended.
 fn fill(p: Part, input: &mut [u8]) -> Part
     ensures { λ r. ⌜ (longest ≤ length (now (input .entry)) → (r .ended ≡ true) ⊎ (r .at + longest ≤ r .filled)) ⌝ }
 {
@@ -108,7 +111,7 @@ fn turn(run: Run, memory: &mut [u8], font: &[u8], input: &mut [u8], out: &mut [u
     }
 }
 
-// All records. The loop counts its turns down from a number that no run uses up.
+// All records. The count of turns, which no run uses up, is there so that the loop is seen to end.
 fn run_records(memory: &mut [u8], font: &[u8], input: &mut [u8], out: &mut [u8]) -> Step {
     let mut run = Run {
         step: session::start(),
@@ -130,6 +133,5 @@ fn run_records(memory: &mut [u8], font: &[u8], input: &mut [u8], out: &mut [u8])
 // All records, and the line that ends the output.
 pub fn run_file(memory: &mut [u8], font: &[u8], input: &mut [u8], out: &mut [u8]) {
     let last = run_records(memory, font, input, out);
-    let o = session::put_end(last.session.output, out, last.good);
-    session::flush(o, out);
+    session::finish(last.session.output, out, last.good);
 }

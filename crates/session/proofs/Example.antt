@@ -1,6 +1,6 @@
 -- 01's worked example, computed: the whole output of ten records with a font of 1,280 zero bytes.
 use Prim.Native.Nat.{ℕ}
-use mathlib.Core.List.{List, [], _∷_, _++_}
+use mathlib.Core.List.{List, [], _∷_, _++_, flatten}
 use mathlib.Core.Path.{_≡_, refl}
 use lib.ListN.{replicate}
 use Rattle.registers.specs.Commands.{commandOf}
@@ -20,7 +20,6 @@ use Rattle.model.specs.Bus.{ignored, commandWrite, served, writeMemory, writePa
 use Rattle.busfile.specs.Records.{wordOf, doubleWordOf, shapeOf, recordAt}
 use Rattle.lines.specs.Lines.{ascii, digit, decimalBelow, number, rowLine}
 use Rattle.session.specs.File.{following}
-use Rattle.session.specs.Stream.{joined}
 use Rattle.session.specs.Program.{programLines}
 
 abbrev file : List ℕ
@@ -36,6 +35,6 @@ file =
     ++ (4 ∷ 0 ∷ 3 ∷ 0 ∷ 0 ∷ 0 ∷ 0 ∷ 0 ∷ [])
     ++ (1 ∷ 0 ∷ 1 ∷ 0 ∷ 0xFF ∷ [])
 
-worked-example : joined (programLines (replicate fontSize 0) file) ≡ ascii "frame 9 0 8 2\n01011010\n00111100\nrefused 10 1 2\nend 10\n"
-unfolding commandOf nextAddress field inLayout begin store storeSystem storeDisplay storeBlocks storeForm storeOverlay directionOf withLow withHigh allowed systemAllows formAllows hasCursor inverted dotsPerColumn width dotOf layerByte columnDot shownDot dot table dots isOn flashing isLit fetch blockByte isText sad threeLayers split halves layer1 layer2 layer3 firstOf mix grayUnfit linesOdd orderUnfit cursorUnfit rowRefusal rowAnswer ignored commandWrite served writeMemory writeParameter dataWrite wordOf doubleWordOf shapeOf recordAt digit decimalBelow number rowLine following
+worked-example : flatten (programLines (replicate fontSize 0) file) ≡ ascii "frame 9 0 8 2\n01011010\n00111100\nrefused 10 1 2\nend 10\n"
+unfolding flatten commandOf nextAddress field inLayout begin store storeSystem storeDisplay storeBlocks storeForm storeOverlay directionOf withLow withHigh allowed systemAllows formAllows hasCursor inverted dotsPerColumn width dotOf layerByte columnDot shownDot dot table dots isOn flashing isLit fetch blockByte isText sad threeLayers split halves layer1 layer2 layer3 firstOf mix grayUnfit linesOdd orderUnfit cursorUnfit rowRefusal rowAnswer ignored commandWrite served writeMemory writeParameter dataWrite wordOf doubleWordOf shapeOf recordAt digit decimalBelow number rowLine following
 worked-example = refl

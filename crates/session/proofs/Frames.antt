@@ -19,7 +19,7 @@ use Rattle.row.proofs.Accepting.{other-row, wide-refused}
 use Rattle.row.proofs.Tables.{lt-or-le}
 use Rattle.lines.specs.Lines.{frameLine, rowLine}
 use Rattle.session.specs.Output.{Buffer, printed, printedAll}
-use Rattle.session.specs.Records.{writeLines, rowLines, framed}
+use Rattle.session.specs.Records.{writeReplyLines, rowLines, framed}
 
 -- one row more
 pub row-more : (row : ℕ → RowAnswer) (n rows : ℕ) (b : Buffer) {dots : List ℕ} {c : Buffer} → n < rows → dots ≡ row n .dots → c ≡ printed b (rowLine dots)
@@ -31,7 +31,7 @@ row-more row n rows b h d e = rw (e, d) (ap (λ (k : ℕ). printedAll b (rowLine
 
 -- a frame whose first row is refused
 pub refused-frame : (r frame size rows : ℕ) (row : ℕ → RowAnswer) (b : Buffer) (a : Answer) {refusal : Refusal} {c : Buffer} → a ≡ Refused refusal → reply a .refusal ≡ row 0 .refusal
-    → c ≡ printedAll b (writeLines r 0 (reply a)) → c ≡ printedAll b (framed r frame size rows row)
+    → c ≡ printedAll b (writeReplyLines r 0 (reply a)) → c ≡ printedAll b (framed r frame size rows row)
 refused-frame r frame size rows row b a {refusal} told first e = e ∙ rw (← first, told, ne-eqb (number refusal) 0 (number-not-0 refusal))
 
 module _ (registers : Registers) (memory font : List ℕ) (frame : ℕ) where

@@ -5,4 +5,5 @@ mod Example
 pub mod Frames
 pub mod Program
 pub mod Short
+pub mod Parts
 pub mod Stream

@@ -1,7 +1,7 @@
 -- All that the program prints of a file.
 use Prim.Native.Nat.{ℕ, zero, suc, _+_, _-_, _^_, _<_, _≤_}
 use mathlib.Core.Bool.{false, true}
-use mathlib.Core.List.{List, [], _∷_, _++_}
+use mathlib.Core.List.{List, [], _∷_, _++_, flatten}
 use mathlib.Core.Path.{_≡_, refl}
 use native.Mathlib.Omega.{arith}
 use lib.ListN.{length, replicate, drop, length-take}
@@ -18,7 +18,7 @@ use Rattle.lines.proofs.Lengths.{line-length}
 use Rattle.session.specs.Output.{Buffer, buffer, printed, printedAll}
 use Rattle.session.specs.Records.{State, afterRecord, recordCalls, recordLines}
 use Rattle.session.specs.File.{Progress, startOf, following, afterFound}
-use Rattle.session.specs.Stream.{held, writtenOut, joined, Short}
+use Rattle.session.specs.Stream.{held, writtenOut, Short}
 use Rattle.session.specs.Program.{foundLines, linesFrom, programLines, steps, ProgramPrints}
 use Rattle.session.proofs.Buffers.{printed-both}
 use Rattle.session.proofs.Bytes.{LfByte, part-bytes, record-keeps}
@@ -97,7 +97,7 @@ module _ (font file : List ℕ) where
 
 -- nothing is lost from an empty buffer on
 from-empty : (out : List ℕ) (lines : List (List ℕ)) (b : Buffer) → longestLine ≤ length out → All Short lines → b ≡ printedAll (buffer out 0) lines
-    → writtenOut (buffer out 0) lines ++ held b ≡ joined lines
+    → writtenOut (buffer out 0) lines ++ held b ≡ flatten lines
 from-empty out lines b room short e = rw e (nothing-lost (buffer out 0) lines room short)
 
 pub program-prints : ProgramPrints
@@ -105,4 +105,4 @@ program-prints font file out bytes room =
     let memory : List ℕ = replicate memorySize 0 in
     let done = steps-end font file (length file + 1) (startOf memory out .state) 0 0 (omega arith) in
     let short = all-short font file bytes (length file + 1) (reset memory) 0 0 (omega arith) (omega arith) in
-    record { ends = done .stops; whole = from-empty out (programLines font file) _ room short (done .prints) }
+    record { ends = done .stops; prints = done .prints; whole = from-empty out (programLines font file) _ room short (done .prints) }

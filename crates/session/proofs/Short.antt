@@ -25,7 +25,7 @@ use Rattle.busfile.specs.declared.Kind.the-variants.{Bus, Reads, Frame}
 use Rattle.busfile.specs.Records.{wordOf, doubleWordOf}
 use Rattle.lines.specs.Lines.{ascii, refusedLine, readLine, frameLine}
 use Rattle.lines.proofs.Lengths.{Small, line-length, row-length}
-use Rattle.session.specs.Records.{busCalls, writeLines, readLines, callLines, callsLines, rowLines, framed, frameLines}
+use Rattle.session.specs.Records.{busCalls, writeReplyLines, readReplyLines, callLines, callsLines, rowLines, framed, frameLines}
 use Rattle.session.specs.Stream.{Short, LinesShort}
 
 -- what both cases have, a choice has
@@ -53,10 +53,10 @@ row-refusal r memory font n buffer = search (choose (λ (refusal : ℕ). refusal
 refused-short : (r k n : ℕ) → Small (r ∷ k ∷ n ∷ []) → Short (refusedLine r k n)
 refused-short r k n small = line-length (ascii "refused") (r ∷ k ∷ n ∷ []) (ascii "\n") small (omega arith)
 
-write-short : (r k : ℕ) (a : Reply) → Small (r ∷ k ∷ a .refusal ∷ []) → All Short (writeLines r k a)
+write-short : (r k : ℕ) (a : Reply) → Small (r ∷ k ∷ a .refusal ∷ []) → All Short (writeReplyLines r k a)
 write-short r k a small = choose (All Short) (a .refusal =? 0) [] (refusedLine r k (a .refusal) ∷ []) (λ e. tt) (λ e. (refused-short r k (a .refusal) small, tt))
 
-read-short : (r k : ℕ) (a : Reply) → Small (r ∷ k ∷ a .refusal ∷ []) → All Short (readLines r k a)
+read-short : (r k : ℕ) (a : Reply) → Small (r ∷ k ∷ a .refusal ∷ []) → All Short (readReplyLines r k a)
 read-short r k a small =
     choose (All Short) (a .refusal =? 0) (readLine r k (a .value) ∷ []) (refusedLine r k (a .refusal) ∷ [])
     (λ e. (line-length (ascii "read") (r ∷ k ∷ []) _ (omega arith) (omega arith), tt))

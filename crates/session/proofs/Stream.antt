@@ -1,7 +1,7 @@
 -- Nothing that is printed is lost.
 use Prim.Native.Nat.{ℕ, _+_, _≤_}
 use mathlib.Core.Bool.{Bool, true, false}
-use mathlib.Core.List.{List, [], _∷_, _++_, append-assoc, append-nil}
+use mathlib.Core.List.{List, [], _∷_, _++_, flatten, append-assoc, append-nil}
 use mathlib.Core.Path.{_≡_, refl, sym}
 use native.Mathlib.Omega.{arith}
 use lib.ListN.{length, take, drop, length-append, length-drop}
@@ -11,7 +11,7 @@ use Rattle.registers.specs.Choice.{if_then_else_, _<?_}
 use Rattle.lines.specs.Lines.{longestLine}
 use Rattle.lines.proofs.Buffers.{stands, front}
 use Rattle.session.specs.Output.{Buffer, usedBefore, printed}
-use Rattle.session.specs.Stream.{held, joined, Short, NothingLost}
+use Rattle.session.specs.Stream.{held, Short, NothingLost}
 
 -- what is written out before a line comes, and the bytes that are still used then, are what the buffer held
 kept : (b : Buffer) (rest : List ℕ)
@@ -48,7 +48,8 @@ module _ (b : Buffer) (line : List ℕ) (room : longestLine ≤ length (b .bytes
       rw (← s .0, ← s .1) (front (b .bytes) (usedBefore b) line (drop (usedBefore b + length line) (b .bytes)) (omega arith))
 
 pub nothing-lost : NothingLost
+unfolding flatten
 nothing-lost b [] room short = sym (append-nil (held b))
 nothing-lost b (line ∷ lines) room short =
     let rest = nothing-lost (printed b line) lines (rw (same-length b line room (short .0)) room) (short .1) in
-    rw (append-assoc, rest, holds b line room (short .0), append-assoc) (kept b (line ++ joined lines))
+    rw (append-assoc, rest, holds b line room (short .0), append-assoc) (kept b (line ++ flatten lines))

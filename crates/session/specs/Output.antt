@@ -1,5 +1,6 @@
 -- Lines in the output's buffer: each is put behind the used bytes, which are written out first where there is less room than for the longest line.
 use Prim.Native.Nat.{ℕ, _+_}
+use mathlib.Core.Bool.{Bool}
 use mathlib.Core.List.{List, [], _∷_}
 use lib.ListN.{length}
 use Rattle.registers.specs.Choice.{if_then_else_, _<?_}
@@ -12,9 +13,13 @@ pub record Buffer : Type 0 where
 abbrev pub buffer : List ℕ → ℕ → Buffer
 buffer bytes used = record { bytes = bytes; used = used }
 
+-- there is less room than for the longest line
+abbrev pub isFull : Buffer → Bool
+isFull b = length (b .bytes) <? b .used + longestLine
+
 -- how many bytes are still used when a line comes
 unfoldable pub usedBefore : Buffer → ℕ
-usedBefore b = if length (b .bytes) <? b .used + longestLine then 0 else b .used
+usedBefore b = if isFull b then 0 else b .used
 
 abbrev pub printed : Buffer → List ℕ → Buffer
 printed b line = buffer (appended (b .bytes) (usedBefore b) line) (usedAfter (b .bytes) (usedBefore b) line)

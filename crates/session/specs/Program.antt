@@ -1,7 +1,7 @@
 -- 01, 'Bus file and its program': all that the program prints of a file.
 use Prim.Native.Nat.{ℕ, zero, suc, _+_, _≤_}
 use mathlib.Core.Bool.{false}
-use mathlib.Core.List.{List, [], _∷_, _++_}
+use mathlib.Core.List.{List, [], _∷_, _++_, flatten}
 use mathlib.Core.Path.{_≡_}
 use lib.ListN.{length, replicate}
 use Rattle.registers.specs.Choice.{if_then_else_}
@@ -13,10 +13,10 @@ use Rattle.busfile.specs.declared.Found.{Found}
 use Rattle.busfile.specs.declared.Found.the-variants.{Record, Bad, End}
 use Rattle.busfile.specs.Records.{recordAt, partOf}
 use Rattle.lines.specs.Lines.{badLine, endLine, longestLine}
-use Rattle.session.specs.Output.{buffer, printed}
+use Rattle.session.specs.Output.{buffer, printed, printedAll}
 use Rattle.session.specs.Records.{recordCalls, recordLines}
 use Rattle.session.specs.File.{Progress, startOf, following, afterFound}
-use Rattle.session.specs.Stream.{held, writtenOut, joined}
+use Rattle.session.specs.Stream.{held, writtenOut}
 
 -- the lines of what was found after a number of good records, and of what follows it: `bad RECORD` stops; last, always, `end COUNT`
 abbrev pub foundLines : List ℕ → List ℕ → Machine → ℕ → Found → (Machine → ℕ → List (List ℕ)) → List (List ℕ)
@@ -32,7 +32,7 @@ linesFrom zero font file m at good = []
 linesFrom (suc k) font file m at good =
     foundLines font file m good (recordAt file at) (λ m′ at′. linesFrom k font file m′ at′ (following good))
 
--- from reset with cleared memory; a file has fewer records than bytes
+-- from reset with cleared memory; a file has no more records than bytes
 abbrev pub programLines : List ℕ → List ℕ → List (List ℕ)
 programLines font file = linesFrom (length file + 1) font file (reset (replicate memorySize 0)) 0 0
 
@@ -43,10 +43,12 @@ steps (suc k) font file p =
     if p .more then steps k font file (afterFound font file (p .at) (p .good) (recordAt file (p .at)) (p .state))
     else p
 
--- The steps of a file come to its end, and the last line is then printed: what was written out and what is held are all lines of the program.
+-- The steps of a file come to its end, and with the last line all lines of the program are printed, each behind the one before it
 pub record Prints (font file out : List ℕ) (p : Progress) : Type 0 where
   pub ends : p .more ≡ false
-  pub whole : writtenOut (buffer out 0) (programLines font file) ++ held (printed (p .state .output) (endLine (p .good))) ≡ joined (programLines font file)
+  pub prints : printed (p .state .output) (endLine (p .good)) ≡ printedAll (buffer out 0) (programLines font file)
+  -- so what was written out and what is held then are the whole text
+  pub whole : writtenOut (buffer out 0) (programLines font file) ++ held (printed (p .state .output) (endLine (p .good))) ≡ flatten (programLines font file)
 
 abbrev pub ProgramPrints : Type 0
 ProgramPrints =

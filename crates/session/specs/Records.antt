@@ -27,23 +27,24 @@ recordCalls Frame payload = []
 
 -- Their lines: `refused RECORD BYTE NUMBER`, or of a read that is not refused `read RECORD INDEX VALUE`
 
-abbrev pub writeLines : ℕ → ℕ → Reply → List (List ℕ)
-writeLines r k a = if a .refusal =? 0 then [] else refusedLine r k (a .refusal) ∷ []
+abbrev pub writeReplyLines : ℕ → ℕ → Reply → List (List ℕ)
+writeReplyLines r k a = if a .refusal =? 0 then [] else refusedLine r k (a .refusal) ∷ []
 
-abbrev pub readLines : ℕ → ℕ → Reply → List (List ℕ)
-readLines r k a = if a .refusal =? 0 then readLine r k (a .value) ∷ [] else refusedLine r k (a .refusal) ∷ []
+abbrev pub readReplyLines : ℕ → ℕ → Reply → List (List ℕ)
+readReplyLines r k a = if a .refusal =? 0 then readLine r k (a .value) ∷ [] else refusedLine r k (a .refusal) ∷ []
 
 abbrev pub callLines : ℕ → ℕ → BusCall → Reply → List (List ℕ)
-callLines r k (command b) a = writeLines r k a
-callLines r k (write b) a = writeLines r k a
-callLines r k read a = readLines r k a
+callLines r k (command b) a = writeReplyLines r k a
+callLines r k (write b) a = writeReplyLines r k a
+callLines r k read a = readReplyLines r k a
 
 -- of calls that are numbered from k on
 abbrev pub callsLines : ℕ → ℕ → Machine → List BusCall → List (List ℕ)
 callsLines r k m [] = []
 callsLines r k m (c ∷ cs) = callLines r k c (call m c .reply) ++ callsLines r (k + 1) (call m c .machine) cs
 
--- A frame: `frame RECORD FRAME WIDTH ROWS`, then one line a row; its refusal, byte zero, once and in place of it
+-- A frame: `frame RECORD FRAME WIDTH ROWS`, then one line a row; its refusal, byte zero, once and in place of it. Its rows are accepted or refused
+-- together, so the first one tells.
 
 -- k rows from row n on
 abbrev pub rowLines : (ℕ → RowAnswer) → ℕ → ℕ → List (List ℕ)

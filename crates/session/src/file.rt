@@ -2,20 +2,26 @@
 use crate::Output;
 use crate::Session;
 use crate::Step;
+use crate::printing::flush;
 use crate::printing::put_bad;
+use crate::printing::put_end;
 use crate::run::run_record;
 use busfile::Found;
 use model::Controller;
 ghost use Prim.Native.Nat.{ℕ};
+ghost use mathlib.Core.Bool.{true};
 ghost use mathlib.Core.List.{List};
 ghost use mathlib.Core.Path.{_≡_};
 ghost use Rattle.busfile.specs.Records.{recordAt};
+ghost use Rattle.lines.specs.Lines.{endLine};
+ghost use Rattle.session.specs.Output.{buffer, printed};
 ghost use Rattle.session.specs.Records.{state};
 ghost use Rattle.session.specs.File.{progress, startOf, following, afterFound};
 
 // Before the first record: a controller from reset, and nothing printed.
 pub fn start() -> Step
     ensures { λ r. ⌜ ((memory out : List ℕ) → progress r memory out ≡ startOf memory out) ⌝ }
+    ensures { λ r. ⌜ r .session .output .open ≡ true ⌝ }
 {
     Step {
         session: Session {
@@ -38,7 +44,7 @@ fn following(good: u64) -> u64
     std::num::wrapping_add_u64(good, 1)
 }
 
-// Carries out the record that stands at a place, where there is one.
+// Carries out the record at a place. A bad one prints `bad` and stops, and so does the end, silently.
 pub fn next(
     s: Session,
     memory: &mut [u8],
@@ -80,4 +86,12 @@ pub fn next(
         good: number,
         more: true,
     }
+}
+
+// Prints the last line, and writes out what the buffer holds.
+pub fn finish(o: Output, out: &mut [u8], good: u64)
+    ensures { λ _. ⌜ now (out .exit) ≡ printed (buffer (now (out .entry)) (o .used)) (endLine good) .bytes ⌝ }
+{
+    let last = put_end(o, out, good);
+    flush(last, out);
 }

@@ -3,11 +3,10 @@ mod file;
 mod printing;
 mod run;
 
+pub use file::finish;
 pub use file::next;
 pub use file::start;
 use model::Controller;
-pub use printing::flush;
-pub use printing::put_end;
 
 // How many bytes of the output buffer are used, and whether standard output still takes them.
 pub struct Output {
@@ -15,7 +14,7 @@ pub struct Output {
     pub open: bool,
 }
 
-// The controller, and what was printed.
+// The controller, and how far its output is.
 pub struct Session {
     pub controller: Controller,
     pub output: Output,

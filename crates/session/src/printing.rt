@@ -10,7 +10,7 @@ ghost use Rattle.io.specs.Counts.{Counts};
 ghost use Rattle.registers.specs.Refusals.{reply, readReply};
 ghost use Rattle.lines.specs.Lines.{refusedLine, frameLine, rowLine, badLine, endLine};
 ghost use Rattle.session.specs.Output.{buffer, usedBefore, printed, printedAll};
-ghost use Rattle.session.specs.Records.{writeLines, readLines};
+ghost use Rattle.session.specs.Records.{writeReplyLines, readReplyLines};
 
 // The longest line: a row of 640 dots and its end.
 const LONGEST: usize = 641;
@@ -60,7 +60,7 @@ fn put_refused(o: Output, out: &mut [u8], record: u64, byte: u64, number: u8) ->
 
 // What a write is answered: nothing is printed where it is accepted.
 pub fn put_answer(o: Output, out: &mut [u8], answer: Answer, record: u64, byte: u64) -> Output
-    ensures { λ r. ⌜ buffer (now (out .exit)) (r .used) ≡ printedAll (buffer (now (out .entry)) (o .used)) (writeLines «record» byte (reply answer)) ⌝ }
+    ensures { λ r. ⌜ buffer (now (out .exit)) (r .used) ≡ printedAll (buffer (now (out .entry)) (o .used)) (writeReplyLines «record» byte (reply answer)) ⌝ }
 {
     match answer {
         Answer::Accepted => o,
@@ -70,7 +70,7 @@ pub fn put_answer(o: Output, out: &mut [u8], answer: Answer, record: u64, byte: 
 
 // What a read is answered: its value, or the refusal.
 pub fn put_read(o: Output, out: &mut [u8], answer: ReadAnswer, record: u64, index: u64) -> Output
-    ensures { λ r. ⌜ buffer (now (out .exit)) (r .used) ≡ printedAll (buffer (now (out .entry)) (o .used)) (readLines «record» index (readReply answer)) ⌝ }
+    ensures { λ r. ⌜ buffer (now (out .exit)) (r .used) ≡ printedAll (buffer (now (out .entry)) (o .used)) (readReplyLines «record» index (readReply answer)) ⌝ }
 {
     match answer {
         ReadAnswer::Refused(refusal) => put_refused(o, out, record, index, refusal.number()),
@@ -84,6 +84,7 @@ pub fn put_read(o: Output, out: &mut [u8], answer: ReadAnswer, record: u64, inde
     }
 }
 
+// The line before a frame's rows.
 pub fn put_frame(
     o: Output,
     out: &mut [u8],

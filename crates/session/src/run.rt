@@ -130,7 +130,7 @@ fn show_rows(
     o
 }
 
-// A frame in a buffer of its width, or the refusal of its first row: its other rows get the same.
+// A frame, its rows in a buffer, or the refusal of its first row: its other rows get the same.
 fn show_frame(
     controller: Controller,
     memory: &[u8],
@@ -155,7 +155,7 @@ fn show_frame(
     }
 }
 
-// A frame number to show. One wider than any row has its rows refused before the buffer is looked at.
+// A frame number to show. 640 dots are enough: a wider frame is refused, with 11 or an earlier number, before 17 is tested.
 fn show(
     controller: Controller,
     memory: &[u8],

@@ -1,0 +1,14 @@
+use mathlib.Core.Path.{ap}
+use borrow.Author.Needs.{needs}
+use Rattle.session.specs.Output.{Buffer}
+use Rattle.session.proofs.file.finish.Statement.{statement}
+use Rattle.session.proofs.file.finish.Tie as tie
+
+pub finish-spec : {M : Type 1} → statement M
+finish-spec =
+    tie.close
+    (tie.spec
+    (λ c κs. search needs)
+    (λ c κs. search needs)
+    (λ c. search needs)
+    (λ c. ap (λ (b : Buffer). b .bytes) (c .before .before .before .before .put-end .ensures)))

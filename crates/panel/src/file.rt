@@ -5,9 +5,10 @@ ghost use Prim.Native.Nat.{_+_, _≤_};
 ghost use mathlib.Core.Bool.{true};
 ghost use mathlib.Core.Logic.{_⊎_};
 ghost use mathlib.Core.Path.{_≡_};
-ghost use lib.ListN.{length, replicate};
+ghost use lib.ListN.{length, take, replicate};
 ghost use Rattle.registers.specs.Sizes.{memorySize};
-ghost use Rattle.busfile.specs.Parts.{longest};
+ghost use Rattle.busfile.specs.Records.{partOf};
+ghost use Rattle.busfile.specs.Parts.{longest, FollowedBy};
 
 // The part of the file that is in the input buffer: its bytes from at to filled, and ended says that no more come.
 pub struct Part {
@@ -49,21 +50,26 @@ pub fn read_font(font: &mut [u8]) -> usize {
 }
 
 // Reads behind the first bytes until the input is full or ends, and answers how many bytes it then has.
-fn read_on(input: &mut [u8], kept: usize) -> usize {
-    if input.len() <= kept {
+fn read_on(input: &mut [u8], kept: usize) -> usize
+    ensures { λ r. ⌜ kept ≤ r ⌝ }
+    ensures { λ _. ⌜ take kept (now (input .exit)) ≡ take kept (now (input .entry)) ⌝ }
+{
+    let size = input.len();
+    if size <= kept {
         return kept;
     }
     let more = io::read_full(STDIN_FILENO, &mut input[kept..]);
-    let room = input.len() - kept;
-    if more < room {
+    if more < size - kept {
         return kept + more;
     }
-    input.len()
+    size
 }
 
-// Reads on, unless the longest record would be whole. After it, that would be whole, or the file has ended.
+// Reads on, unless the longest record would be whole. After it, that would be whole, or the file has ended; what was left is followed by what
+// was read.
 fn fill(p: Part, input: &mut [u8]) -> Part
     ensures { λ r. ⌜ (longest ≤ length (now (input .entry)) → (r .ended ≡ true) ⊎ (r .at + longest ≤ r .filled)) ⌝ }
+    ensures { λ r. ⌜ FollowedBy (partOf (now (input .entry)) (p .at) (p .filled)) (partOf (now (input .exit)) (r .at) (r .filled)) ⌝ }
 {
     if p.ended {
         return p;

@@ -19,5 +19,5 @@ abbrev pub StepsInParts : Type 0
 StepsInParts =
     (font before part after : List ℕ) (at good : ℕ) (s : State) → (after ≡ []) ⊎ (at + longest ≤ length part)
     → let file = before ++ (part ++ after) in
-      furtherOn (length before) (afterFound font part at good (recordAt part at) s)
-      ≡ afterFound font file (length before + at) good (recordAt file (length before + at)) s
+    furtherOn (length before) (afterFound font part at good (recordAt part at) s)
+    ≡ afterFound font file (length before + at) good (recordAt file (length before + at)) s

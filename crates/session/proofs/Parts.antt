@@ -9,7 +9,7 @@ use Rattle.busfile.specs.Records.{recordAt}
 use Rattle.busfile.specs.Parts.{further, SameRecord}
 use Rattle.busfile.proofs.Parts.{parts-suffice}
 use Rattle.session.specs.Records.{State}
-use Rattle.session.specs.File.{Progress, afterFound}
+use Rattle.session.specs.File.{afterFound}
 use Rattle.session.specs.Parts.{furtherOn, StepsInParts}
 
 -- what was found in a part, carried out in it and in the file

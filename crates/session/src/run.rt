@@ -33,39 +33,25 @@ fn run_command(s: Session, out: &mut [u8], b: u8, record: u64) -> Session
     }
 }
 
-// A data byte of a kind 1 record.
-fn run_data_byte(
-    s: Session,
-    memory: &mut [u8],
-    out: &mut [u8],
-    b: u8,
-    record: u64,
-    byte: u64,
-) -> Session
-    ensures { λ r. ⌜ state r (now (memory .exit)) (now (out .exit)) ≡ afterCalls «record» byte (state s (now (memory .entry)) (now (out .entry))) (write b ∷ []) ⌝ }
-{
-    let controller = s.controller;
-    let written = controller.data_write(memory, b);
-    let controller = written.controller;
-    let answer = written.answer;
-    Session {
-        controller: controller,
-        output: put_answer(s.output, out, answer, record, byte),
-    }
-}
-
 // The bytes of a kind 1 record behind its command byte.
 fn run_data(s: Session, memory: &mut [u8], out: &mut [u8], payload: &[u8], record: u64) -> Session
     ensures { λ r. ⌜ state r (now (memory .exit)) (now (out .exit)) ≡ afterCalls «record» 2 (state s (now (memory .entry)) (now (out .entry))) (map write (drop 1 (now (payload .entry)))) ⌝ }
 {
-    let mut session = s;
+    let mut controller = s.controller;
+    let mut o = s.output;
     let mut i: usize = 1;
     while i < payload.len() {
         let b = payload[i];
         i += 1;
-        session = run_data_byte(session, memory, out, b, record, i as u64);
+        let written = controller.data_write(memory, b);
+        controller = written.controller;
+        let answer = written.answer;
+        o = put_answer(o, out, answer, record, i as u64);
     }
-    session
+    Session {
+        controller: controller,
+        output: o,
+    }
 }
 
 // A command byte, then its data writes.

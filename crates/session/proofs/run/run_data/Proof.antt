@@ -1,21 +1,40 @@
 use Prim.Native.Nat.{ℕ, _+_, _-_}
 use mathlib.Core.List.{List, map}
 use mathlib.Core.Path.{_≡_, refl, ap, _∙_}
-use lib.ListN.{length, drop, drop-of-length-le}
+use lib.ListN.{length, getD, drop, drop-of-length-le}
 use borrow.Author.Needs.{needs}
+use Rattle.model.specs.Machine.{machine}
 use Rattle.model.specs.Calls.{write}
-use Rattle.session.specs.Records.{state, afterCalls}
-use Rattle.session.proofs.Calls.{data-more, no-calls}
+use Rattle.session.specs.Output.{buffer}
+use Rattle.session.specs.Records.{State, afterCalls}
+use Rattle.session.proofs.Calls.{one-call, data-more, no-calls}
 use Rattle.session.proofs.run.run_data.Statement.{statement}
 use Rattle.session.proofs.run.run_data.Tie as tie
 
 abbrev Inv-loop : tie.InvT-loop
-Inv-loop memory₀ out₀ payload «record» session₀ i₀ memory out session i =
-    (afterCalls «record» (i + 1) (state session memory out) (map write (drop i payload)) ≡ afterCalls «record» 2 (state session₀ memory₀ out₀) (map write (drop 1 payload)))
+Inv-loop memory₀ out₀ payload «record» controller₀ o₀ i₀ memory out controller o i =
+    let s₀ : State = record { machine = machine controller₀ memory₀; output = buffer out₀ (o₀ .used) } in
+    let s : State = record { machine = machine controller memory; output = buffer out (o .used) } in
+    (afterCalls «record» (i + 1) s (map write (drop i payload)) ≡ afterCalls «record» 2 s₀ (map write (drop 1 payload)))
     × (length memory ≡ length memory₀) × (length out ≡ length out₀)
 
 abbrev μ-loop : tie.MeasureT-loop
-μ-loop memory₀ out₀ payload «record» session₀ i₀ memory out session i = length payload - i
+μ-loop memory₀ out₀ payload «record» controller₀ o₀ i₀ memory out controller o i = length payload - i
+
+loop-again : tie.Need-loop-again Inv-loop μ-loop
+loop-again c =
+    let p = c .before .before in
+    let w = p .before .before .before .before .before in
+    let t = w .before .before .before in
+    let l = t .before in
+    let a = l .before .before .before .before .before .before .args in
+    let i = l .loop .i in
+    let s : State = record { machine = machine (l .loop .controller) (l .loop .memory); output = buffer (l .loop .out) (l .loop .o .used) } in (
+      data-more (a .«record») i (a .payload .now) s (t .loop-test .taken)
+          (one-call (a .«record») (i + 1) s (write (getD (a .payload .now) i 0)) (w .data-write .ensures) (p .put-answer .ensures)) ∙ l .loop .inv .0,
+      search needs,
+      search needs,
+    )
 
 pub run-data-spec : {M : Type 1} → statement M
 run-data-spec =
@@ -27,11 +46,9 @@ run-data-spec =
     (λ c. search needs)
     (λ c. search needs)
     (λ c κs. search needs)
+    (λ c κs. search needs)
     (λ c. search needs)
-    (λ c.
-    let d = c .before .before .before .before in
-    let t = d .before .before .before .before in
-    (data-more _ _ _ _ (t .loop-test .taken) (d .run-data-byte .ensures) ∙ t .before .loop .inv .0, search needs, search needs))
+    loop-again
     (λ c. search needs)
     (λ c. search needs)
     (λ c. no-calls _ _ _ _ (ap (λ (bs : List ℕ). map write bs) (drop-of-length-le _ (c .loop-test .left))) ∙ c .before .loop .inv .0))

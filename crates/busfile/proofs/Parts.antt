@@ -16,7 +16,7 @@ use Rattle.busfile.specs.declared.Shape.the-variants.{Good, Wrong}
 use Rattle.busfile.specs.declared.Found.{Found}
 use Rattle.busfile.specs.declared.Found.the-variants.{Record}
 use Rattle.busfile.specs.Records.{wordOf, shapeOf, bodyOf, recordAt, partOf}
-use Rattle.busfile.specs.Parts.{further, longest, PartsSuffice}
+use Rattle.busfile.specs.Parts.{further, longestRecord, PartsSuffice}
 use Rattle.busfile.proofs.Ends.{shapeAt, header, body-ends}
 
 -- Bytes before
@@ -62,7 +62,7 @@ part-same part after start end h room =
     rw (drop-append-le start part after (omega arith), take-append-le (end - start) (drop start part) after (rw length-drop (omega arith)))
 
 -- none is cut where the longest would not be
-body-same : (n m at kind size : ℕ) → at + longest ≤ n → bodyOf (shapeOf kind size) n at size ≡ bodyOf (shapeOf kind size) (n + m) at size
+body-same : (n m at kind size : ℕ) → at + longestRecord ≤ n → bodyOf (shapeOf kind size) n at size ≡ bodyOf (shapeOf kind size) (n + m) at size
 unfolding shapeOf
 body-same n m at kind size h = go (65532 <? size) refl
   where
@@ -83,7 +83,7 @@ Same part after at =
 last : (part after : List ℕ) (at : ℕ) → after ≡ [] → Same part after at
 last part after at e = let same : part ++ after ≡ part = rw (e, append-nil) in (rw same, λ r found. rw same)
 
-long : (part after : List ℕ) (at : ℕ) → at + longest ≤ length part → Same part after at
+long : (part after : List ℕ) (at : ℕ) → at + longestRecord ≤ length part → Same part after at
 long part after at h =
     let here = header part at (omega arith) in
     let there = header (part ++ after) at (rw length-append (omega arith)) in

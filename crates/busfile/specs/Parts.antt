@@ -16,8 +16,8 @@ further k Bad = Bad
 further k End = End
 
 -- the longest record: a header of 4 bytes and a payload of 65,532
-abbrev pub longest : ℕ
-longest = 65536
+abbrev pub longestRecord : ℕ
+longestRecord = 65536
 
 -- A place in a part, with bytes before and after the part: what is found there stands there in the file, its payload too.
 pub record SameRecord (before part after : List ℕ) (at : ℕ) : Type 0 where
@@ -27,7 +27,7 @@ pub record SameRecord (before part after : List ℕ) (at : ℕ) : Type 0 where
 
 -- So it is where the file ends with the part, or the part has from that place on as many bytes as the longest record.
 abbrev pub PartsSuffice : Type 0
-PartsSuffice = (before part after : List ℕ) (at : ℕ) → (after ≡ []) ⊎ (at + longest ≤ length part) → SameRecord before part after at
+PartsSuffice = (before part after : List ℕ) (at : ℕ) → (after ≡ []) ⊎ (at + longestRecord ≤ length part) → SameRecord before part after at
 
 -- a list, with more behind it
 abbrev pub FollowedBy : List ℕ → List ℕ → Type 0

@@ -14,10 +14,10 @@ ghost use Rattle.busfile.specs.Records.{
   partOf,
   compacted,
 };
-ghost use Rattle.busfile.specs.Parts.{longest};
+ghost use Rattle.busfile.specs.Parts.{longestRecord};
 ghost use Rattle.registers.specs.Choice.{_≤?_};
 
-const LONGEST: usize = 65536;
+const LONGEST_RECORD: usize = 65536;
 
 // The byte at a place, 0 past the end.
 fn byte(s: &[u8], at: usize) -> u8
@@ -59,12 +59,12 @@ pub fn part(s: &[u8], start: usize, end: usize) -> &[u8]
 
 // Whether a part of a file has from a place on as many bytes as the longest record: what stands there is then known without what follows.
 pub fn suffices(part: &[u8], at: usize) -> bool
-    ensures { λ r. ⌜ r ≡ (at + longest ≤? length (now (part .entry))) ⌝ }
+    ensures { λ r. ⌜ r ≡ (at + longestRecord ≤? length (now (part .entry))) ⌝ }
 {
     if part.len() < at {
         return false;
     }
-    if part.len() - at < LONGEST {
+    if part.len() - at < LONGEST_RECORD {
         return false;
     }
     true

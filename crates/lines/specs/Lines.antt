@@ -28,7 +28,7 @@ decimalBelow (suc k) n = (if n <? 10 then [] else decimalBelow k (n / 10)) ++ (d
 unfoldable pub number : ℕ → List ℕ
 number n = ascii " " ++ decimalBelow (n + 1) n
 
--- a text with numbers behind it
+-- a text with numbers behind it, as the code puts lines together; no line's definition cites it
 abbrev pub withNumbers : List ℕ → List ℕ → List ℕ
 withNumbers text [] = text
 withNumbers text (n ∷ ns) = withNumbers (text ++ number n) ns

@@ -8,7 +8,7 @@ ghost use mathlib.Core.Path.{_≡_};
 ghost use lib.ListN.{length, take, replicate};
 ghost use Rattle.registers.specs.Sizes.{memorySize};
 ghost use Rattle.busfile.specs.Records.{partOf};
-ghost use Rattle.busfile.specs.Parts.{longest, FollowedBy};
+ghost use Rattle.busfile.specs.Parts.{longestRecord, FollowedBy};
 
 // The part of the file that is in the input buffer: its bytes from at to filled, and ended says that no more come.
 pub struct Part {
@@ -68,7 +68,7 @@ fn read_on(input: &mut [u8], kept: usize) -> usize
 // Reads on, unless the longest record would be whole. After it, that would be whole, or the file has ended; what was left is followed by what
 // was read.
 fn fill(p: Part, input: &mut [u8]) -> Part
-    ensures { λ r. ⌜ (longest ≤ length (now (input .entry)) → (r .ended ≡ true) ⊎ (r .at + longest ≤ r .filled)) ⌝ }
+    ensures { λ r. ⌜ (longestRecord ≤ length (now (input .entry)) → (r .ended ≡ true) ⊎ (r .at + longestRecord ≤ r .filled)) ⌝ }
     ensures { λ r. ⌜ FollowedBy (partOf (now (input .entry)) (p .at) (p .filled)) (partOf (now (input .exit)) (r .at) (r .filled)) ⌝ }
 {
     if p.ended {

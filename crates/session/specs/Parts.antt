@@ -5,7 +5,7 @@ use mathlib.Core.Logic.{_⊎_}
 use mathlib.Core.Path.{_≡_}
 use lib.ListN.{length}
 use Rattle.busfile.specs.Records.{recordAt}
-use Rattle.busfile.specs.Parts.{longest}
+use Rattle.busfile.specs.Parts.{longestRecord}
 use Rattle.session.specs.Records.{State}
 use Rattle.session.specs.File.{Progress, afterFound}
 
@@ -17,7 +17,7 @@ furtherOn k p = record { state = p .state; at = k + p .at; good = p .good; more 
 -- that place on as many bytes as the longest record.
 abbrev pub StepsInParts : Type 0
 StepsInParts =
-    (font before part after : List ℕ) (at good : ℕ) (s : State) → (after ≡ []) ⊎ (at + longest ≤ length part)
+    (font before part after : List ℕ) (at good : ℕ) (s : State) → (after ≡ []) ⊎ (at + longestRecord ≤ length part)
     → let file = before ++ (part ++ after) in
     furtherOn (length before) (afterFound font part at good (recordAt part at) s)
     ≡ afterFound font file (length before + at) good (recordAt file (length before + at)) s

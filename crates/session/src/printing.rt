@@ -13,7 +13,7 @@ ghost use Rattle.session.specs.Output.{buffer, usedBefore, printed, prin
 ghost use Rattle.session.specs.Records.{writeReplyLines, readReplyLines};
 
 // The longest line: a row of 640 dots and its end.
-const LONGEST: usize = 641;
+const LONGEST_LINE: usize = 641;
 
 // A number, or a slice's length where that is less.
 pub fn at_most(n: usize, s: &[u8]) -> usize
@@ -42,7 +42,7 @@ fn room(o: Output, out: &[u8]) -> Output
     ensures { λ r. ⌜ r .used ≡ usedBefore (buffer (now (out .entry)) (o .used)) ⌝ }
 {
     let used = at_most(o.used, out);
-    if out.len() - used < LONGEST {
+    if out.len() - used < LONGEST_LINE {
         return flush(o, out);
     }
     o

@@ -11,15 +11,15 @@ use lib.Seq.{take-add, take-at}
 use borrow.Author.Tests.{leb-true, ltb-false}
 use borrow.Author.Needs.{needs}
 use Rattle.busfile.specs.Records.{partOf, compacted}
-use Rattle.busfile.specs.Parts.{longest, FollowedBy}
+use Rattle.busfile.specs.Parts.{longestRecord, FollowedBy}
 use Rattle.panel.proofs.file.fill.Statement.{statement}
 use Rattle.panel.proofs.file.fill.Tie as tie
 
 -- a buffer that was not filled up has ended, and one that was holds the longest record
-filled-up : (total size : ℕ) → longest ≤ size → (ltb total size ≡ true) ⊎ (longest ≤ total)
+filled-up : (total size : ℕ) → longestRecord ≤ size → (ltb total size ≡ true) ⊎ (longestRecord ≤ total)
 filled-up total size h = go (ltb total size) refl
   where
-    go : (b : Bool) → ltb total size ≡ b → (b ≡ true) ⊎ (longest ≤ total)
+    go : (b : Bool) → ltb total size ≡ b → (b ≡ true) ⊎ (longestRecord ≤ total)
     go true e = inl refl
     go false e = inr (omega (arith, h, ltb-false total size e))
 

@@ -1,10 +1,12 @@
 -- Lines in the output's buffer: each is put behind the used bytes, which are written out first where there is less room than for the longest line.
 use Prim.Native.Nat.{ℕ, _+_}
-use mathlib.Core.Bool.{Bool}
+use mathlib.Core.Bool.{Bool, false}
 use mathlib.Core.List.{List, [], _∷_}
+use mathlib.Core.Path.{_≡_}
 use lib.ListN.{length}
 use Rattle.registers.specs.Choice.{if_then_else_, _<?_}
 use Rattle.lines.specs.Lines.{appended, usedAfter, longestLine}
+use Rattle.session.specs.declared.Output.{Output}
 
 pub record Buffer : Type 0 where
   pub bytes : List ℕ
@@ -27,3 +29,7 @@ printed b line = buffer (appended (b .bytes) (usedBefore b) line) (usedAfter (b 
 abbrev pub printedAll : Buffer → List (List ℕ) → Buffer
 printedAll b [] = b
 printedAll b (line ∷ lines) = printedAll (printed b line) lines
+
+-- Whether standard output still takes bytes only the system knows. Once it does not, that stays so
+abbrev pub StaysClosed : Output → Output → Type 0
+StaysClosed before after = before .open ≡ false → after .open ≡ false

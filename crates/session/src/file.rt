@@ -14,7 +14,7 @@ ghost use mathlib.Core.List.{List};
 ghost use mathlib.Core.Path.{_≡_};
 ghost use Rattle.busfile.specs.Records.{recordAt};
 ghost use Rattle.lines.specs.Lines.{endLine};
-ghost use Rattle.session.specs.Output.{buffer, printed};
+ghost use Rattle.session.specs.Output.{buffer, printed, StaysClosed};
 ghost use Rattle.session.specs.Records.{state};
 ghost use Rattle.session.specs.File.{progress, startOf, following, afterFound};
 
@@ -55,6 +55,7 @@ pub fn next(
     good: u64,
 ) -> Step
     ensures { λ r. ⌜ progress r (now (memory .exit)) (now (out .exit)) ≡ afterFound (now (font .entry)) (now (file .entry)) at good (recordAt (now (file .entry)) at) (state s (now (memory .entry)) (now (out .entry))) ⌝ }
+    ensures { λ r. ⌜ StaysClosed (s .output) (r .session .output) ⌝ }
 {
     let found = busfile::found_at(file, at);
     if let Found::End = found {

@@ -9,7 +9,7 @@ ghost use lib.ListN.{length};
 ghost use Rattle.io.specs.Counts.{Counts};
 ghost use Rattle.registers.specs.Refusals.{reply, readReply};
 ghost use Rattle.lines.specs.Lines.{refusedLine, frameLine, rowLine, badLine, endLine};
-ghost use Rattle.session.specs.Output.{buffer, usedBefore, printed, printedAll};
+ghost use Rattle.session.specs.Output.{buffer, usedBefore, printed, printedAll, StaysClosed};
 ghost use Rattle.session.specs.Records.{writeReplyLines, readReplyLines};
 
 // The longest line: a row of 640 dots and its end.
@@ -29,6 +29,7 @@ pub fn at_most(n: usize, s: &[u8]) -> usize
 // Writes out what the buffer holds.
 pub fn flush(o: Output, out: &[u8]) -> Output
     ensures { λ r. ⌜ r .used ≡ 0 ⌝ }
+    ensures { λ r. ⌜ StaysClosed o r ⌝ }
 {
     let used = at_most(o.used, out);
     Output {
@@ -40,6 +41,7 @@ pub fn flush(o: Output, out: &[u8]) -> Output
 // Room for any line: the buffer is written out where it has less.
 fn room(o: Output, out: &[u8]) -> Output
     ensures { λ r. ⌜ r .used ≡ usedBefore (buffer (now (out .entry)) (o .used)) ⌝ }
+    ensures { λ r. ⌜ StaysClosed o r ⌝ }
 {
     let used = at_most(o.used, out);
     if out.len() - used < LONGEST_LINE {
@@ -50,6 +52,7 @@ fn room(o: Output, out: &[u8]) -> Output
 
 fn put_refused(o: Output, out: &mut [u8], record: u64, byte: u64, number: u8) -> Output
     ensures { λ r. ⌜ buffer (now (out .exit)) (r .used) ≡ printed (buffer (now (out .entry)) (o .used)) (refusedLine «record» byte number) ⌝ }
+    ensures { λ r. ⌜ StaysClosed o r ⌝ }
 {
     let o = room(o, out);
     Output {
@@ -61,6 +64,7 @@ fn put_refused(o: Output, out: &mut [u8], record: u64, byte: u64, number: u8) ->
 // What a write is answered: nothing is printed where it is accepted.
 pub fn put_answer(o: Output, out: &mut [u8], answer: Answer, record: u64, byte: u64) -> Output
     ensures { λ r. ⌜ buffer (now (out .exit)) (r .used) ≡ printedAll (buffer (now (out .entry)) (o .used)) (writeReplyLines «record» byte (reply answer)) ⌝ }
+    ensures { λ r. ⌜ StaysClosed o r ⌝ }
 {
     match answer {
         Answer::Accepted => o,
@@ -71,6 +75,7 @@ pub fn put_answer(o: Output, out: &mut [u8], answer: Answer, record: u64, byte: 
 // What a read is answered: its value, or the refusal.
 pub fn put_read(o: Output, out: &mut [u8], answer: ReadAnswer, record: u64, index: u64) -> Output
     ensures { λ r. ⌜ buffer (now (out .exit)) (r .used) ≡ printedAll (buffer (now (out .entry)) (o .used)) (readReplyLines «record» index (readReply answer)) ⌝ }
+    ensures { λ r. ⌜ StaysClosed o r ⌝ }
 {
     match answer {
         ReadAnswer::Refused(refusal) => put_refused(o, out, record, index, refusal.number()),
@@ -94,6 +99,7 @@ pub fn put_frame(
     rows: u16,
 ) -> Output
     ensures { λ r. ⌜ buffer (now (out .exit)) (r .used) ≡ printed (buffer (now (out .entry)) (o .used)) (frameLine «record» frame width rows) ⌝ }
+    ensures { λ r. ⌜ StaysClosed o r ⌝ }
 {
     let o = room(o, out);
     Output {
@@ -104,6 +110,7 @@ pub fn put_frame(
 
 pub fn put_row(o: Output, out: &mut [u8], row: &[u8]) -> Output
     ensures { λ r. ⌜ buffer (now (out .exit)) (r .used) ≡ printed (buffer (now (out .entry)) (o .used)) (rowLine (now (row .entry))) ⌝ }
+    ensures { λ r. ⌜ StaysClosed o r ⌝ }
 {
     let o = room(o, out);
     Output {
@@ -114,6 +121,7 @@ pub fn put_row(o: Output, out: &mut [u8], row: &[u8]) -> Output
 
 pub fn put_bad(o: Output, out: &mut [u8], record: u64) -> Output
     ensures { λ r. ⌜ buffer (now (out .exit)) (r .used) ≡ printed (buffer (now (out .entry)) (o .used)) (badLine «record») ⌝ }
+    ensures { λ r. ⌜ StaysClosed o r ⌝ }
 {
     let o = room(o, out);
     Output {
@@ -124,6 +132,7 @@ pub fn put_bad(o: Output, out: &mut [u8], record: u64) -> Output
 
 pub fn put_end(o: Output, out: &mut [u8], count: u64) -> Output
     ensures { λ r. ⌜ buffer (now (out .exit)) (r .used) ≡ printed (buffer (now (out .entry)) (o .used)) (endLine count) ⌝ }
+    ensures { λ r. ⌜ StaysClosed o r ⌝ }
 {
     let o = room(o, out);
     Output {

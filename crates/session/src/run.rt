@@ -16,12 +16,13 @@ ghost use lib.ListN.{length, drop, replicate};
 ghost use Rattle.row.specs.Rows.{frameSize, rowAnswer};
 ghost use Rattle.model.specs.Machine.{machine};
 ghost use Rattle.model.specs.Calls.{command, write, read};
-ghost use Rattle.session.specs.Output.{buffer, printedAll};
+ghost use Rattle.session.specs.Output.{buffer, printedAll, StaysClosed};
 ghost use Rattle.session.specs.Records.{busCalls, framed, frameLines, rowLines, state, afterCalls, afterRecord};
 
 // The command byte of a kind 1 record.
 fn run_command(s: Session, out: &mut [u8], b: u8, record: u64) -> Session
     ensures { λ r. ⌜ ((memory : List ℕ) → state r memory (now (out .exit)) ≡ afterCalls «record» 1 (state s memory (now (out .entry))) (command b ∷ [])) ⌝ }
+    ensures { λ r. ⌜ StaysClosed (s .output) (r .output) ⌝ }
 {
     let controller = s.controller;
     let written = controller.command_write(b);
@@ -36,6 +37,7 @@ fn run_command(s: Session, out: &mut [u8], b: u8, record: u64) -> Session
 // The bytes of a kind 1 record behind its command byte.
 fn run_data(s: Session, memory: &mut [u8], out: &mut [u8], payload: &[u8], record: u64) -> Session
     ensures { λ r. ⌜ state r (now (memory .exit)) (now (out .exit)) ≡ afterCalls «record» 2 (state s (now (memory .entry)) (now (out .entry))) (map write (drop 1 (now (payload .entry)))) ⌝ }
+    ensures { λ r. ⌜ StaysClosed (s .output) (r .output) ⌝ }
 {
     let mut controller = s.controller;
     let mut o = s.output;
@@ -57,6 +59,7 @@ fn run_data(s: Session, memory: &mut [u8], out: &mut [u8], payload: &[u8], recor
 // A command byte, then its data writes.
 fn run_bus(s: Session, memory: &mut [u8], out: &mut [u8], payload: &[u8], record: u64) -> Session
     ensures { λ r. ⌜ state r (now (memory .exit)) (now (out .exit)) ≡ afterCalls «record» 1 (state s (now (memory .entry)) (now (out .entry))) (busCalls (now (payload .entry))) ⌝ }
+    ensures { λ r. ⌜ StaysClosed (s .output) (r .output) ⌝ }
 {
     if payload.len() == 0 {
         return s;
@@ -67,6 +70,7 @@ fn run_bus(s: Session, memory: &mut [u8], out: &mut [u8], payload: &[u8], record
 
 fn run_read(s: Session, memory: &[u8], out: &mut [u8], record: u64, index: u64) -> Session
     ensures { λ r. ⌜ state r (now (memory .entry)) (now (out .exit)) ≡ afterCalls «record» index (state s (now (memory .entry)) (now (out .entry))) (read ∷ []) ⌝ }
+    ensures { λ r. ⌜ StaysClosed (s .output) (r .output) ⌝ }
 {
     let controller = s.controller;
     let read = controller.data_read(memory);
@@ -81,6 +85,7 @@ fn run_read(s: Session, memory: &[u8], out: &mut [u8], record: u64, index: u64) 
 // A count of reads.
 fn run_reads(s: Session, memory: &[u8], out: &mut [u8], count: u16, record: u64) -> Session
     ensures { λ r. ⌜ state r (now (memory .entry)) (now (out .exit)) ≡ afterCalls «record» 1 (state s (now (memory .entry)) (now (out .entry))) (replicate count read) ⌝ }
+    ensures { λ r. ⌜ StaysClosed (s .output) (r .output) ⌝ }
 {
     let mut session = s;
     let mut i: u16 = 0;
@@ -105,6 +110,7 @@ fn show_rows(
     requires { ⌜ rows ≡ frameSize (controller .registers) .rows .0 ⌝ }
     requires { ⌜ rowAnswer (controller .registers) (now memory) (now font) frame 0 (length (now row)) .refusal ≡ 0 ⌝ }
     ensures { λ r. ⌜ buffer (now (out .exit)) (r .used) ≡ printedAll (buffer (now (out .entry)) (o .used)) (rowLines (λ n. rowAnswer (controller .registers) (now (memory .entry)) (now (font .entry)) frame n (length (now (row .entry)))) 0 rows) ⌝ }
+    ensures { λ r. ⌜ StaysClosed o r ⌝ }
 {
     let mut o = o;
     let mut n: u16 = 0;
@@ -130,6 +136,7 @@ fn show_frame(
 ) -> Output
     requires { ⌜ rows ≡ frameSize (controller .registers) .rows .0 ⌝ }
     ensures { λ r. ⌜ buffer (now (out .exit)) (r .used) ≡ printedAll (buffer (now (out .entry)) (o .used)) (framed «record» frame (length (now (row .entry))) rows (λ n. rowAnswer (controller .registers) (now (memory .entry)) (now (font .entry)) frame n (length (now (row .entry))))) ⌝ }
+    ensures { λ r. ⌜ StaysClosed o r ⌝ }
 {
     let answer = controller.row(memory, font, frame, 0, row);
     match answer {
@@ -152,6 +159,7 @@ fn show(
     record: u64,
 ) -> Output
     ensures { λ r. ⌜ buffer (now (out .exit)) (r .used) ≡ printedAll (buffer (now (out .entry)) (o .used)) (frameLines «record» (machine controller (now (memory .entry))) (now (font .entry)) frame) ⌝ }
+    ensures { λ r. ⌜ StaysClosed o r ⌝ }
 {
     let mut row = [0u8; 640];
     let size = row::frame_size(controller.registers);
@@ -181,6 +189,7 @@ pub fn run_record(
     record: u64,
 ) -> Session
     ensures { λ r. ⌜ state r (now (memory .exit)) (now (out .exit)) ≡ afterRecord «record» (now (font .entry)) kind (now (payload .entry)) (state s (now (memory .entry)) (now (out .entry))) ⌝ }
+    ensures { λ r. ⌜ StaysClosed (s .output) (r .output) ⌝ }
 {
     match kind {
         Kind::Bus => run_bus(s, memory, out, payload, record),

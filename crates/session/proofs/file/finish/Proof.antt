@@ -11,4 +11,4 @@ finish-spec =
     (λ c κs. search needs)
     (λ c κs. search needs)
     (λ c. search needs)
-    (λ c. ap (λ (b : Buffer). b .bytes) (c .before .before .before .before .put-end .ensures)))
+    (λ c. ap (λ (b : Buffer). b .bytes) (c .before .before .before .before .put-end .ensures .0)))

@@ -26,7 +26,7 @@ returns-3 c =
     let k = p .before .before in
     let n = k .before .before in
     let f = n .before .before in
-    rw (sym (f .found-at .ensures) ∙ k .found .given .1, ← n .following .ensures, ← p .part .ensures, r .run-record .ensures)
+    (rw (sym (f .found-at .ensures) ∙ k .found .given .1, ← n .following .ensures, ← p .part .ensures, r .run-record .ensures .0), r .run-record .ensures .1)
 
 pub next-spec : {M : Type 1} → statement M
 next-spec =
@@ -34,7 +34,7 @@ next-spec =
     (tie.spec
     (λ c κs. search needs)
     (λ c. search needs)
-    (λ c. rw (sym (c .before .before .found-at .ensures) ∙ c .enum-told .given .1))
+    (λ c. (rw (sym (c .before .before .found-at .ensures) ∙ c .enum-told .given .1), λ e. e))
     (λ c κs. search needs)
     (λ c. search needs)
     (λ c κs. search needs)
@@ -42,7 +42,8 @@ next-spec =
     (λ c.
     let n = c .before .before .before .before .before .before in
     let f = n .before .before in
-    rw (sym (f .found-at .ensures) ∙ bad (f .found-at .result) (c .before .before .before .before .before .match2 .keys2) (n .before .match .keys2), ← n .following .ensures, c .before .before .put-bad .ensures))
+    let put = c .before .before .put-bad .ensures in
+    (rw (sym (f .found-at .ensures) ∙ bad (f .found-at .result) (c .before .before .before .before .before .match2 .keys2) (n .before .match .keys2), ← n .following .ensures, put .0), put .1))
     (λ c κs. search needs)
     (λ c κs. search needs)
     (λ c. search needs)

@@ -13,10 +13,11 @@ put-answer-spec =
     (λ c. search needs)
     (λ c κs. search needs)
     (λ c κs. search needs)
-    (λ c. rw (c .enum-told .given .1))
+    (λ c. (rw (c .enum-told .given .1), λ e. e))
     (λ c. search needs)
     (λ c.
     let n = c .before .before .before in
     let k = n .before .before .before in
     let refusal = k .answer .given .0 .0 in
-    rw (k .answer .given .1, ne-eqb (number refusal) 0 (number-not-0 refusal), ← n .number .ensures) (c .before .before .put-refused .ensures)))
+    let p = c .before .before .put-refused .ensures in
+    (rw (k .answer .given .1, ne-eqb (number refusal) 0 (number-not-0 refusal), ← n .number .ensures) (p .0), p .1)))

@@ -11,4 +11,4 @@ put-frame-spec =
     (λ c κs. search needs)
     (λ c κs. search needs)
     (λ c. search needs)
-    (λ c. let r = c .before .before .before .before in let a = r .before .before .before .args in puts _ (frameLine (a .«record») (a .frame) (a .width) (a .rows)) _ (r .room .ensures) (c .before .before .frame .ensures)))
+    (λ c. let r = c .before .before .before .before in let a = r .before .before .before .args in (puts _ (frameLine (a .«record») (a .frame) (a .width) (a .rows)) _ (r .room .ensures .0) (c .before .before .frame .ensures), r .room .ensures .1)))

@@ -23,10 +23,12 @@ put-read-spec =
     let n = r .before in
     let k = n .before .before .before in
     let refusal = k .answer .given .0 .0 in
-    rw (k .answer .given .1, ne-eqb (number refusal) 0 (number-not-0 refusal), ← n .number .ensures) (r .put-refused .ensures))
+    let p = r .put-refused .ensures in
+    (rw (k .answer .given .1, ne-eqb (number refusal) 0 (number-not-0 refusal), ← n .number .ensures) (p .0), p .1))
     (λ c. search needs)
     (λ c.
     let r = c .before .before in
     let v = r .before .before .before .before .before in
     let a = v .before .before .before .args in
-    rw (v .answer2 .given .1) (puts _ (readLine (a .«record») (a .index) (v .answer2 .given .0 .0)) _ (r .before .before .room .ensures) (r .read .ensures))))
+    let m = r .before .before .room .ensures in
+    (rw (v .answer2 .given .1) (puts _ (readLine (a .«record») (a .index) (v .answer2 .given .0 .0)) _ (m .0) (r .read .ensures)), m .1)))

@@ -11,4 +11,4 @@ put-refused-spec =
     (λ c κs. search needs)
     (λ c κs. search needs)
     (λ c. search needs)
-    (λ c. let r = c .before .before .before .before in let a = r .before .before .before .args in puts _ (refusedLine (a .«record») (a .byte) (a .number)) _ (r .room .ensures) (c .before .before .refused .ensures)))
+    (λ c. let r = c .before .before .before .before in let a = r .before .before .before .args in (puts _ (refusedLine (a .«record») (a .byte) (a .number)) _ (r .room .ensures .0) (c .before .before .refused .ensures), r .room .ensures .1)))

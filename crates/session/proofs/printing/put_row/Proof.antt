@@ -11,4 +11,4 @@ put-row-spec =
     (λ c κs. search needs)
     (λ c κs. search needs)
     (λ c. search needs)
-    (λ c. let r = c .before .before .before .before in let a = r .before .before .before .before .args in puts _ (rowLine (a .row .now)) _ (r .room .ensures) (c .before .before .row .ensures)))
+    (λ c. let r = c .before .before .before .before in let a = r .before .before .before .before .args in (puts _ (rowLine (a .row .now)) _ (r .room .ensures .0) (c .before .before .row .ensures), r .room .ensures .1)))

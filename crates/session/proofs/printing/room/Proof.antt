@@ -12,5 +12,5 @@ room-spec =
     (λ c κs. search needs)
     (λ c. search needs)
     (λ c κs. search needs)
-    (λ c. c .flush .ensures ∙ written-out _ _ (omega (arith, c .before .if1 .taken, c .before .before .at-most .ensures .1)))
-    (λ c. has-room _ _ (omega (arith, c .if1 .left, c .before .at-most .ensures .1))))
+    (λ c. (c .flush .ensures .0 ∙ written-out _ _ (omega (arith, c .before .if1 .taken, c .before .before .at-most .ensures .1)), c .flush .ensures .1))
+    (λ c. (has-room _ _ (omega (arith, c .if1 .left, c .before .at-most .ensures .1)), λ e. e)))

@@ -11,4 +11,4 @@ run-command-spec =
     (λ c κs. search needs)
     (λ c κs. search needs)
     (λ c. search needs)
-    (λ c. let p = c .before .before in let w = p .before .before .before in let a = w .before .before .before .args in λ memory. one-call (a .«record») 1 _ (command (a .b)) (w .command-write .ensures memory) (p .put-answer .ensures)))
+    (λ c. let p = c .before .before in let w = p .before .before .before in let a = w .before .before .before .args in (λ memory. one-call (a .«record») 1 _ (command (a .b)) (w .command-write .ensures memory) (p .put-answer .ensures .0), p .put-answer .ensures .1)))

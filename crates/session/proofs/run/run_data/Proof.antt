@@ -5,7 +5,7 @@ use lib.ListN.{length, getD, drop, drop-of-length-le}
 use borrow.Author.Needs.{needs}
 use Rattle.model.specs.Machine.{machine}
 use Rattle.model.specs.Calls.{write}
-use Rattle.session.specs.Output.{buffer}
+use Rattle.session.specs.Output.{buffer, StaysClosed}
 use Rattle.session.specs.Records.{State, afterCalls}
 use Rattle.session.proofs.Calls.{one-call, data-more, no-calls}
 use Rattle.session.proofs.run.run_data.Statement.{statement}
@@ -16,7 +16,7 @@ Inv-loop memory₀ out₀ payload «record» controller₀ o₀ i₀ memory out 
     let s₀ : State = record { machine = machine controller₀ memory₀; output = buffer out₀ (o₀ .used) } in
     let s : State = record { machine = machine controller memory; output = buffer out (o .used) } in
     (afterCalls «record» (i + 1) s (map write (drop i payload)) ≡ afterCalls «record» 2 s₀ (map write (drop 1 payload)))
-    × (length memory ≡ length memory₀) × (length out ≡ length out₀)
+    × (length memory ≡ length memory₀) × (length out ≡ length out₀) × StaysClosed o₀ o
 
 abbrev μ-loop : tie.MeasureT-loop
 μ-loop memory₀ out₀ payload «record» controller₀ o₀ i₀ memory out controller o i = length payload - i
@@ -31,9 +31,10 @@ loop-again c =
     let i = l .loop .i in
     let s : State = record { machine = machine (l .loop .controller) (l .loop .memory); output = buffer (l .loop .out) (l .loop .o .used) } in (
       data-more (a .«record») i (a .payload .now) s (t .loop-test .taken)
-          (one-call (a .«record») (i + 1) s (write (getD (a .payload .now) i 0)) (w .data-write .ensures) (p .put-answer .ensures)) ∙ l .loop .inv .0,
+          (one-call (a .«record») (i + 1) s (write (getD (a .payload .now) i 0)) (w .data-write .ensures) (p .put-answer .ensures .0)) ∙ l .loop .inv .0,
       search needs,
       search needs,
+      λ e. p .put-answer .ensures .1 (l .loop .inv .3 e),
     )
 
 pub run-data-spec : {M : Type 1} → statement M
@@ -42,7 +43,7 @@ run-data-spec =
     (tie.spec
     Inv-loop
     μ-loop
-    (λ c. (refl, refl, refl))
+    (λ c. (refl, refl, refl, λ e. e))
     (λ c. search needs)
     (λ c. search needs)
     (λ c κs. search needs)
@@ -51,4 +52,4 @@ run-data-spec =
     loop-again
     (λ c. search needs)
     (λ c. search needs)
-    (λ c. no-calls _ _ _ _ (ap (λ (bs : List ℕ). map write bs) (drop-of-length-le _ (c .loop-test .left))) ∙ c .before .loop .inv .0))
+    (λ c. let l = c .before .loop .inv in (no-calls _ _ _ _ (ap (λ (bs : List ℕ). map write bs) (drop-of-length-le _ (c .loop-test .left))) ∙ l .0, l .3)))

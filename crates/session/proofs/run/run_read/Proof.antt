@@ -11,4 +11,4 @@ run-read-spec =
     (λ c κs. search needs)
     (λ c κs. search needs)
     (λ c. search needs)
-    (λ c. let p = c .before .before in let w = p .before .before .before in let a = w .before .before .before .before .args in one-call (a .«record») (a .index) _ read (w .data-read .ensures) (p .put-read .ensures)))
+    (λ c. let p = c .before .before in let w = p .before .before .before in let a = w .before .before .before .before .args in (one-call (a .«record») (a .index) _ read (w .data-read .ensures) (p .put-read .ensures .0), p .put-read .ensures .1)))

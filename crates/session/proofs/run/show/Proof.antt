@@ -11,11 +11,13 @@ returns c =
     let f = c .before .before .before in
     let w = f .before .before .before in
     let z = w .before .before .before in
-    let a = z .before .before .before .before .args in
-    in-640 (a .controller .registers) (a .memory .now) (a .font .now) (a .frame) (a .«record») _
-    (sym (w .at-most .ensures .0 .1) ∙ w .at-most .ensures .1 ∙ ap (λ (x : FrameSize). min (x .width) 640) (z .frame-size .ensures))
-    (ap (λ (x : FrameSize). x .rows .0) (z .frame-size .ensures))
-    (f .show-frame .ensures)
+    let a = z .before .before .before .before .args in (
+      in-640 (a .controller .registers) (a .memory .now) (a .font .now) (a .frame) (a .«record») _
+          (sym (w .at-most .ensures .0 .1) ∙ w .at-most .ensures .1 ∙ ap (λ (x : FrameSize). min (x .width) 640) (z .frame-size .ensures))
+          (ap (λ (x : FrameSize). x .rows .0) (z .frame-size .ensures))
+          (f .show-frame .ensures .0),
+      f .show-frame .ensures .1,
+    )
 
 pub show-spec : {M : Type 1} → statement M
 show-spec =

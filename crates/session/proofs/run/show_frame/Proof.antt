@@ -35,9 +35,12 @@ returns c =
     let w = k .before .before .before .before in
     let a = w .before .before .before .before .before .before .args in
     let row : ℕ → RowAnswer = λ n. rowAnswer (a .controller .registers) (a .memory .now) (a .font .now) (a .frame) n (length (a .row .now)) in
-    refused-frame (a .«record») (a .frame) (length (a .row .now)) (a .rows) row _ (w .row .result) (k .enum-told .given .1)
-    (row-refusal (a .controller .registers) (a .memory .now) (a .font .now) (a .frame) 0 (a .row .now) (w .row .result) (w .row .ensures))
-    (p .put-answer .ensures)
+    let put = p .put-answer .ensures in (
+      refused-frame (a .«record») (a .frame) (length (a .row .now)) (a .rows) row _ (w .row .result) (k .enum-told .given .1)
+          (row-refusal (a .controller .registers) (a .memory .now) (a .font .now) (a .frame) 0 (a .row .now) (w .row .result) (w .row .ensures))
+          (put .0),
+      put .1,
+    )
 
 returns-2 : tie.Need-returns-2
 returns-2 c =
@@ -46,9 +49,13 @@ returns-2 c =
     let t = f .before .before in
     let w = t .before .before .before .before in
     let a = w .before .before .before .before .before .before .args in
-    accepted-frame (a .controller .registers) (a .memory .now) (a .font .now) (a .frame) (a .«record») (a .rows) (length (a .row .now)) _ (w .row .kept .1 .1 .1 .1 .1 .0)
-    (first-row t)
-    (f .put-frame .ensures) (d .show-rows .ensures)
+    let put = f .put-frame .ensures in
+    let rows = d .show-rows .ensures in (
+      accepted-frame (a .controller .registers) (a .memory .now) (a .font .now) (a .frame) (a .«record») (a .rows) (length (a .row .now)) _ (w .row .kept .1 .1 .1 .1 .1 .0)
+          (first-row t)
+          (put .0) (rows .0),
+      λ e. rows .1 (put .1 e),
+    )
 
 pub show-frame-spec : {M : Type 1} → statement M
 show-frame-spec =

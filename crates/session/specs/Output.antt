@@ -1,4 +1,5 @@
 -- Lines in the output's buffer: each is put behind the used bytes, which are written out first where there is less room than for the longest line.
+-- One that does not fit is left out; LinesShort (Stream) says that none is.
 use Prim.Native.Nat.{ℕ, _+_}
 use mathlib.Core.Bool.{Bool, false}
 use mathlib.Core.List.{List, [], _∷_}

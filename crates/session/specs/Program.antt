@@ -43,7 +43,7 @@ steps (suc k) font file p =
     if p .more then steps k font file (afterFound font file (p .at) (p .good) (recordAt file (p .at)) (p .state))
     else p
 
--- The steps of a file come to its end, and with the last line all lines of the program are printed, each behind the one before it
+-- The steps of a file come to a stop, and with the last line all lines of the program are printed, each behind the one before it
 pub record Prints (font file out : List ℕ) (p : Progress) : Type 0 where
   pub ends : p .more ≡ false
   pub prints : printed (p .state .output) (endLine (p .good)) ≡ printedAll (buffer out 0) (programLines font file)

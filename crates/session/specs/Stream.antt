@@ -15,7 +15,7 @@ use Rattle.session.specs.Records.{recordLines}
 abbrev pub held : Buffer → List ℕ
 held b = take (b .used) (b .bytes)
 
--- what is written out while lines are printed
+-- what is written out while lines are printed, where `flush` writes what the buffer holds
 abbrev pub writtenOut : Buffer → List (List ℕ) → List ℕ
 writtenOut b [] = []
 writtenOut b (line ∷ lines) =

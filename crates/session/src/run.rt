@@ -122,7 +122,7 @@ fn show_rows(
     o
 }
 
-// A frame, its rows in a buffer, or the refusal of its first row: its other rows get the same.
+// A frame, its rows in a buffer, or the refusal of its first row: the others are accepted or refused with it.
 fn show_frame(
     controller: Controller,
     memory: &[u8],

@@ -78,15 +78,14 @@ pub record State : Type 0 where
 abbrev pub state : Session → List ℕ → List ℕ → State
 state s memory out = record { machine = machine (s .controller) memory; output = buffer out (s .output .used) }
 
--- calls carried out, numbered from k on
-abbrev pub afterCalls : ℕ → ℕ → State → List BusCall → State
-afterCalls r k s cs =
-    record { machine = after (s .machine) cs; output = printedAll (s .output) (callsLines r k (s .machine) cs) }
+-- calls carried out, and lines printed
+abbrev pub carriedOut : State → List BusCall → List (List ℕ) → State
+carriedOut s cs lines = record { machine = after (s .machine) cs; output = printedAll (s .output) lines }
 
--- a record carried out
+-- the state after calls that are numbered from k on
+abbrev pub afterCalls : ℕ → ℕ → State → List BusCall → State
+afterCalls r k s cs = carriedOut s cs (callsLines r k (s .machine) cs)
+
+-- the state after a record
 abbrev pub afterRecord : ℕ → List ℕ → Kind → List ℕ → State → State
-afterRecord r font kind payload s =
-    record {
-      machine = after (s .machine) (recordCalls kind payload);
-      output = printedAll (s .output) (recordLines r (s .machine) font kind payload);
-    }
+afterRecord r font kind payload s = carriedOut s (recordCalls kind payload) (recordLines r (s .machine) font kind payload)

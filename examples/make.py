@@ -2,7 +2,7 @@
 """Makes the example bus files and their font, in this folder.
 
 page.bus    a text page over a graphics frame, with a message strip in the third screen block
-gray.bus    a picture of four shades: a gradient behind a box that has priority over it
+grey.bus    a picture of four shades: a gradient behind a box that has priority over it
 worked.bus  the worked example of the rules: two rows of graphics, and a byte that is no command
 """
 import os
@@ -55,7 +55,7 @@ def page():
     return made + show(0)
 
 
-def gray():
+def grey():
     made = bus(0x40, 0x10, 7, 7, 7, 11, 7, 8, 0)  # 8 columns, at 2 bits 32 x 8 dots
     made += bus(0x44, 0, 0, 7, 0x00, 0x01, 7, 0x00, 0x02, 0, 0)
     made += bus(0x5B, 0x1F) + bus(0x60, 1) + bus(0x59, 0x54)  # three layers of graphics, priority, 2 bits a dot
@@ -75,7 +75,7 @@ def worked():
 
 def main():
     here = os.path.dirname(os.path.abspath(__file__))
-    for name, data in (("font.bin", font()), ("page.bus", page()), ("gray.bus", gray()), ("worked.bus", worked())):
+    for name, data in (("font.bin", font()), ("page.bus", page()), ("grey.bus", grey()), ("worked.bus", worked())):
         with open(os.path.join(here, name), "wb") as file:
             file.write(data)
 

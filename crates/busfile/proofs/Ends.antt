@@ -6,7 +6,7 @@ use mathlib.Core.Path.{_≡_, refl, sym, _∙_}
 use native.Mathlib.Omega.{arith}
 use lib.ListN.{length, drop}
 use borrow.Author.Tests.{ltb-false, le-ltb, ne-eqb}
-use Rattle.registers.specs.Choice.{if_then_else_, _<?_, _=?_}
+use Rattle.choice.specs.Choice.{if_then_else_, _<?_, _=?_}
 use Rattle.busfile.specs.declared.Record as R
 use Rattle.busfile.specs.declared.Shape.{Shape}
 use Rattle.busfile.specs.declared.Shape.the-variants.{Good, Wrong}

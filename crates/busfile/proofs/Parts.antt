@@ -9,7 +9,7 @@ use native.Mathlib.Omega.{arith}
 use lib.ListN.{length, drop, length-append, length-drop, List·getD-append}
 use lib.Seq.{drop-append-add, drop-append-le, take-append-le}
 use borrow.Author.Tests.{ltb-false, le-ltb}
-use Rattle.registers.specs.Choice.{if_then_else_, _<?_, _=?_}
+use Rattle.choice.specs.Choice.{if_then_else_, _<?_, _=?_}
 use Rattle.busfile.specs.declared.Record as R
 use Rattle.busfile.specs.declared.Shape.{Shape}
 use Rattle.busfile.specs.declared.Shape.the-variants.{Good, Wrong}

@@ -2,7 +2,7 @@
 use Prim.Native.Nat.{ℕ, _+_, _-_, _*_}
 use mathlib.Core.List.{List, _++_}
 use lib.ListN.{length, getD, take, drop}
-use Rattle.registers.specs.Choice.{if_then_else_, _<?_, _=?_}
+use Rattle.choice.specs.Choice.{if_then_else_, _<?_, _=?_}
 use Rattle.busfile.specs.declared.Kind.{Kind}
 use Rattle.busfile.specs.declared.Kind.the-variants.{Bus, Reads, Frame}
 use Rattle.busfile.specs.declared.Shape.{Shape}

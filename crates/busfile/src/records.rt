@@ -15,7 +15,7 @@ ghost use Rattle.busfile.specs.Records.{
   compacted,
 };
 ghost use Rattle.busfile.specs.Parts.{longestRecord};
-ghost use Rattle.registers.specs.Choice.{_≤?_};
+ghost use Rattle.choice.specs.Choice.{_≤?_};
 
 const LONGEST_RECORD: usize = 65536;
 

@@ -8,8 +8,8 @@ use native.Mathlib.Omega.{arith}
 use lib.Dec.{leb, eqb, eqb→eq}
 use borrow.Author.Tests.{lt-ltb, le-ltb, leb-true, leb-false}
 use Rattle.io.specs.Digits.{digits, Fewest, glyph}
-use Rattle.registers.specs.Choice.{if_then_else_, _<?_}
-use Rattle.registers.proofs.Below.{all-below}
+use Rattle.choice.specs.Choice.{if_then_else_, _<?_}
+use Rattle.choice.proofs.Below.{all-below}
 use Rattle.lines.specs.Lines.{digit, decimalBelow}
 
 abbrev code : ℕ → ℕ

@@ -7,7 +7,7 @@ use native.Mathlib.Nat.{pow-suc, div-lt-iff-lt-mul}
 use native.Mathlib.Omega.{arith}
 use lib.ListN.{length, length-append, length-map}
 use borrow.Author.Tests.{ltb-false}
-use Rattle.registers.specs.Choice.{if_then_else_, _<?_}
+use Rattle.choice.specs.Choice.{if_then_else_, _<?_}
 use Rattle.lines.specs.Lines.{digit, decimalBelow, number, withNumbers, rowLine, longestLine}
 
 decimal-length : (k n j : ℕ) → n < 10 ^ suc j → length (decimalBelow k n) ≤ suc j

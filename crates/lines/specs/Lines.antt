@@ -4,7 +4,7 @@ use Prim.Native.Nat.{ℕ, zero, suc, _+_, _/_, _%_}
 use Prim.Native.String.{String, [] as none, _∷_ as _then_}
 use mathlib.Core.List.{List, [], _∷_, _++_, map}
 use lib.ListN.{length, getD, take, drop}
-use Rattle.registers.specs.Choice.{if_then_else_, _<?_, _≤?_}
+use Rattle.choice.specs.Choice.{if_then_else_, _<?_, _≤?_}
 
 -- the bytes of a text
 abbrev pub ascii : String → List ℕ

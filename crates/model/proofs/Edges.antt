@@ -7,7 +7,7 @@ use lib.ListN.{length, set}
 use lib.Seq.{getD-set-same}
 use borrow.Author.Tests.{eq-eqb}
 use Rattle.registers.specs.declared.Command.the-variants.{Mwrite}
-use Rattle.registers.specs.Choice.{if_then_else_, _<?_}
+use Rattle.choice.specs.Choice.{if_then_else_, _<?_}
 use Rattle.registers.specs.Commands.{commandOf, _is_, parameters}
 use Rattle.registers.specs.Parameters.{begin, store, storeSystem, storeDisplay, storeBlocks, storeForm, storeOverlay, directionOf, withLow, withHigh, allowed, systemAllows, formAllows}
 use Rattle.registers.specs.Cursor.{nextAddress}
@@ -16,7 +16,7 @@ use Rattle.row.specs.Layers.{threeLayers}
 use Rattle.row.specs.Glyphs.{glyphOf}
 use Rattle.row.specs.Flashing.{isOn, flashing, isLit}
 use Rattle.row.specs.Dots.{dotsPerColumn, width}
-use Rattle.row.specs.Refusals.{grayUnfit, linesOdd, orderUnfit, cursorUnfit, rowRefusal}
+use Rattle.row.specs.Refusals.{greyMode, oddLines, layerOrder, cursorShape, rowRefusal}
 use Rattle.row.specs.Rows.{rowAnswer}
 use Rattle.model.specs.Machine.{Machine, Outcome, accept, refuse}
 use Rattle.model.specs.Bus.{ignored, commandWrite, served, accessed, dataWrite, dataRead, writeParameter, writeMemory}
@@ -67,7 +67,7 @@ module _ (memory : List ℕ) (full : length memory ≡ 32768) where
   )
 
 pub edges-hold : EdgesHold
-unfolding commandOf begin store storeSystem storeDisplay storeBlocks storeForm storeOverlay directionOf withLow withHigh allowed systemAllows formAllows nextAddress ignored commandWrite served writeParameter inLayout field rowAnswer rowRefusal grayUnfit linesOdd orderUnfit cursorUnfit threeLayers width dotsPerColumn isLit flashing isOn glyphOf
+unfolding commandOf begin store storeSystem storeDisplay storeBlocks storeForm storeOverlay directionOf withLow withHigh allowed systemAllows formAllows nextAddress ignored commandWrite served writeParameter inLayout field rowAnswer rowRefusal greyMode oddLines layerOrder cursorShape threeLayers width dotsPerColumn isLit flashing isOn glyphOf
 edges-hold memory full =
     let stored = getD-set-same memory 0x7FFF 0xA5 0 (omega arith) in
     hold memory full edges (

@@ -15,7 +15,7 @@ use Rattle.registers.specs.declared.Command.the-variants.{None, SystemSet, Slee
 use Rattle.registers.specs.declared.Direction.{Direction}
 use Rattle.registers.specs.declared.Direction.the-variants.{Right, Left, Up, Down}
 use Rattle.registers.specs.declared.Registers.{Registers}
-use Rattle.registers.specs.Choice.{if_then_else_}
+use Rattle.choice.specs.Choice.{if_then_else_}
 use Rattle.registers.specs.Commands.{commandOf, code, _is_}
 use Rattle.registers.specs.Parameters.{begin, store, storeSystem, storeDisplay, storeBlocks, storeForm, storeOverlay, directionOf, withLow, allowed, systemAllows, formAllows, resetRegisters}
 use Rattle.registers.specs.Cursor.{nextAddress}
@@ -52,7 +52,7 @@ observe CsrDir x = turn (x .cursor .direction)
 observe Ovlay x = x .overlay .mx
 observe CgramAdr x = x .cgram
 observe HdotScr x = x .hdot
-observe GrayScale x = x .gray
+observe GrayScale x = x .grey
 observe Csrw x = x .cursor .address
 observe Csrr x = 0
 observe Mwrite x = 0
@@ -99,7 +99,7 @@ module _ (memory : List ℕ) (full : length memory ≡ 32768) where
         ovlay = told Ovlay (stored Ovlay) (omega arith) (rw (eq-eqb _ _ full, after)) refl refl (refl, (λ e. refl), omega arith);
         cgram-adr = told CgramAdr (stored CgramAdr) (omega arith) (rw (eq-eqb _ _ full, after)) refl refl (refl, (λ e. refl), omega arith);
         hdot-scr = told HdotScr (stored HdotScr) (omega arith) (rw (eq-eqb _ _ full, after)) refl refl (refl, (λ e. refl), omega arith);
-        gray-scale = told GrayScale (stored GrayScale) (omega arith) (rw (eq-eqb _ _ full, after)) refl refl (refl, (λ e. refl), omega arith);
+        grey-scale = told GrayScale (stored GrayScale) (omega arith) (rw (eq-eqb _ _ full, after)) refl refl (refl, (λ e. refl), omega arith);
         disp = told Disp (stored Disp) (omega arith) (rw (eq-eqb _ _ full, after)) refl refl (refl, (λ e. refl), omega arith);
         csrw = told Csrw (stored Csrw) (omega arith) (rw (eq-eqb _ _ full, after)) refl refl (refl, (λ e. refl), omega arith);
       })
@@ -190,7 +190,7 @@ module _ (r : Refresh) where
         ovlay = λ seen h x f awake. rw (h, add-zero);
         cgram-adr = λ seen h x f awake. rw (h, add-zero);
         hdot-scr = λ seen h x f awake. rw (h, add-zero);
-        gray-scale = λ seen h x f awake. rw (h, add-zero);
+        grey-scale = λ seen h x f awake. rw (h, add-zero);
         disp = λ seen h x f awake. rw (h, add-zero);
         csrw = stays-csrw;
       })

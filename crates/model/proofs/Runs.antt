@@ -5,7 +5,7 @@ use mathlib.Core.List.{List, [], _∷_, _++_}
 use mathlib.Core.Path.{_≡_, refl, sym, subst, _∙_}
 use lib.ListN.{length, length-set}
 use Rattle.registers.specs.declared.Command.the-variants.{None, Mwrite, Mread}
-use Rattle.registers.specs.Choice.{if_then_else_, _<?_}
+use Rattle.choice.specs.Choice.{if_then_else_, _<?_}
 use Rattle.registers.specs.Commands.{commandOf, _is_, parameters}
 use Rattle.registers.specs.Parameters.{allowed}
 use Rattle.model.specs.Machine.{Machine, Outcome}

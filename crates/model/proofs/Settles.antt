@@ -9,7 +9,7 @@ use Rattle.registers.specs.declared.Command.{Command}
 use Rattle.registers.specs.declared.Command.the-variants.{None, SystemSet, SleepIn, Disp, Scroll, CsrForm, CsrDir, Ovlay, CgramAdr, HdotScr, GrayScale, Csrw, Mwrite}
 use Rattle.registers.specs.declared.Direction.the-variants.{Right}
 use Rattle.registers.specs.declared.Registers.{Registers}
-use Rattle.registers.specs.Choice.{if_then_else_}
+use Rattle.choice.specs.Choice.{if_then_else_}
 use Rattle.registers.specs.Commands.{commandOf, _is_, parameters}
 use Rattle.registers.specs.Parameters.{begin, store, storeSystem, storeDisplay, storeBlocks, storeForm, storeOverlay, directionOf, resetRegisters}
 use Rattle.registers.proofs.Words.{both-bytes}
@@ -53,7 +53,7 @@ module _ (r : Refresh) where
         ovlay = plain-of Ovlay refl refl refl refl;
         cgram-adr = plain-of CgramAdr refl refl refl refl;
         hdot-scr = plain-of HdotScr refl refl refl refl;
-        gray-scale = plain-of GrayScale refl refl refl refl;
+        grey-scale = plain-of GrayScale refl refl refl refl;
         disp = plain-of Disp (opcode-on (r .on)) refl refl refl;
         csrw = plain-of Csrw refl refl refl refl;
       })
@@ -82,7 +82,7 @@ module _ (r : Refresh) where
         overlay = put Ovlay resetRegisters .overlay;
         cgram = put CgramAdr resetRegisters .cgram;
         hdot = put HdotScr resetRegisters .hdot;
-        gray = put GrayScale resetRegisters .gray;
+        grey = put GrayScale resetRegisters .grey;
         cursor = record { address = 0; direction = Right };
         asleep = false;
       }
@@ -98,7 +98,7 @@ module _ (r : Refresh) where
         overlay = if seen Ovlay then settled .overlay else x .overlay;
         cgram = if seen CgramAdr then settled .cgram else x .cgram;
         hdot = if seen HdotScr then settled .hdot else x .hdot;
-        gray = if seen GrayScale then settled .gray else x .gray;
+        grey = if seen GrayScale then settled .grey else x .grey;
         cursor =
             record {
               address = if seen Csrw then settled .cursor .address else x .cursor .address;
@@ -122,7 +122,7 @@ module _ (r : Refresh) where
         ovlay = λ seen x. refl;
         cgram-adr = λ seen x. simp (both-bytes (r .values CgramAdr .1));
         hdot-scr = λ seen x. refl;
-        gray-scale = λ seen x. refl;
+        grey-scale = λ seen x. refl;
         disp = λ seen x. refl;
         csrw =
             λ seen x.

@@ -18,7 +18,7 @@ pub record Each (P : Command → Type 0) : Type 0 where
   pub ovlay : P Ovlay
   pub cgram-adr : P CgramAdr
   pub hdot-scr : P HdotScr
-  pub gray-scale : P GrayScale
+  pub grey-scale : P GrayScale
   pub disp : P Disp
   pub csrw : P Csrw
 
@@ -30,7 +30,7 @@ of-ten P e CsrDir h = e .csr-dir
 of-ten P e Ovlay h = e .ovlay
 of-ten P e CgramAdr h = e .cgram-adr
 of-ten P e HdotScr h = e .hdot-scr
-of-ten P e GrayScale h = e .gray-scale
+of-ten P e GrayScale h = e .grey-scale
 of-ten P e Disp h = e .disp
 of-ten P e Csrw h = e .csrw
 of-ten P e None h = absurd (omega arith)

@@ -4,7 +4,7 @@ use Prim.Native.Nat.{ℕ, _%_}
 use mathlib.Core.List.{List, [], _∷_, _++_}
 use mathlib.Core.Path.{_≡_}
 use lib.ListN.{length, getD, replicate}
-use Rattle.registers.specs.Choice.{if_then_else_}
+use Rattle.choice.specs.Choice.{if_then_else_}
 use Rattle.registers.specs.Sizes.{memorySize, fontSize}
 use Rattle.registers.specs.Layout.{inLayout}
 use Rattle.row.specs.declared.Glyph.{Glyph}

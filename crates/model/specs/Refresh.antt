@@ -7,7 +7,7 @@ use lib.Dec.{T}
 use lib.ListN.{length}
 use Rattle.registers.specs.declared.Command.{Command}
 use Rattle.registers.specs.declared.Command.the-variants.{SystemSet, Disp, Scroll, CsrForm, CsrDir, Ovlay, CgramAdr, HdotScr, GrayScale, Csrw, Mwrite}
-use Rattle.registers.specs.Choice.{if_then_else_}
+use Rattle.choice.specs.Choice.{if_then_else_}
 use Rattle.registers.specs.Commands.{code, _is_, parameters}
 use Rattle.registers.specs.Parameters.{allowed}
 use Rattle.registers.specs.Sizes.{memorySize}

@@ -5,7 +5,7 @@ use mathlib.Core.Path.{_≡_, refl, sym, ap, _∙_}
 use native.Mathlib.Omega.{arith}
 use lib.ListN.{getD}
 use Rattle.registers.specs.declared.Refusal.{Refusal}
-use Rattle.registers.specs.declared.Refusal.the-variants.{MemorySize, UnknownCommand, NothingWanted, NotAllowed, Asleep, NothingToRead, OutsideMemory, FontSize, GrayMode, CharacterWidth, RowWidth, OddLines, ShortLine, LayerOrder, CursorShape, RowNumber, BufferSize}
+use Rattle.registers.specs.declared.Refusal.the-variants.{MemorySize, UnknownCommand, NothingWanted, NotAllowed, Asleep, NothingToRead, OutsideMemory, FontSize, GreyMode, CharacterWidth, RowWidth, OddLines, ShortLine, LayerOrder, CursorShape, RowNumber, BufferSize}
 use Rattle.registers.specs.declared.Answer.{Answer}
 use Rattle.registers.specs.declared.Answer.the-variants.{Accepted, Refused}
 use Rattle.registers.specs.declared.ReadAnswer.{ReadAnswer}
@@ -16,7 +16,7 @@ abbrev answered : ℕ → Answer
 answered n =
     getD
     (Accepted ∷ Refused MemorySize ∷ Refused UnknownCommand ∷ Refused NothingWanted ∷ Refused NotAllowed ∷ Refused Asleep
-    ∷ Refused NothingToRead ∷ Refused OutsideMemory ∷ Refused FontSize ∷ Refused GrayMode ∷ Refused CharacterWidth ∷ Refused RowWidth
+    ∷ Refused NothingToRead ∷ Refused OutsideMemory ∷ Refused FontSize ∷ Refused GreyMode ∷ Refused CharacterWidth ∷ Refused RowWidth
     ∷ Refused OddLines ∷ Refused ShortLine ∷ Refused LayerOrder ∷ Refused CursorShape ∷ Refused RowNumber ∷ Refused BufferSize ∷ [])
     n Accepted
 
@@ -29,7 +29,7 @@ of-number Asleep = refl
 of-number NothingToRead = refl
 of-number OutsideMemory = refl
 of-number FontSize = refl
-of-number GrayMode = refl
+of-number GreyMode = refl
 of-number CharacterWidth = refl
 of-number RowWidth = refl
 of-number OddLines = refl

@@ -2,7 +2,7 @@
 use Prim.Native.Nat.{ℕ}
 use mathlib.Core.Bool.{Bool, _&&_}
 use mathlib.Core.List.{List, [], _∷_}
-use Rattle.registers.specs.Choice.{if_then_else_, _≤?_, _=?_}
+use Rattle.choice.specs.Choice.{if_then_else_, _≤?_, _=?_}
 use Rattle.registers.specs.declared.Command.{Command}
 use Rattle.registers.specs.declared.Command.the-variants.{None, SystemSet, SleepIn, Disp, Scroll, CsrForm, CsrDir, Ovlay, CgramAdr, HdotScr, GrayScale, Csrw, Csrr, Mwrite, Mread}
 

@@ -25,7 +25,7 @@ withCursor c r =
       overlay = r .overlay;
       cgram = r .cgram;
       hdot = r .hdot;
-      gray = r .gray;
+      grey = r .grey;
       cursor = c;
       asleep = r .asleep;
     }

@@ -1,6 +1,6 @@
 -- 01, 'Reset, commands and parameters': a field handed in outside its layout, or a grey code of 3, is read as 0.
 use Prim.Native.Nat.{ℕ}
-use Rattle.registers.specs.Choice.{if_then_else_, _<?_}
+use Rattle.choice.specs.Choice.{if_then_else_, _<?_}
 use Rattle.registers.specs.Counts.{codeOf}
 use Rattle.registers.specs.declared.System.{System}
 use Rattle.registers.specs.declared.Display.{Display}
@@ -46,7 +46,7 @@ inLayout r =
       overlay = overlayInLayout (r .overlay);
       cgram = r .cgram;
       hdot = field 8 (r .hdot);
-      gray = field 3 (r .gray);
+      grey = field 3 (r .grey);
       cursor = r .cursor;
       asleep = r .asleep;
     }

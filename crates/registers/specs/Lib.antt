@@ -1,4 +1,3 @@
-pub mod Choice
 pub mod Counts
 pub mod Refusals
 pub mod Sizes

@@ -2,7 +2,7 @@
 -- and what reset leaves. Written by field: where it stands in its command's list (P1 is place 0), and which bits it is.
 use Prim.Native.Nat.{ℕ, _+_, _-_, _*_, _/_, _%_, _^_}
 use mathlib.Core.Bool.{Bool, true, false, not, _&&_}
-use Rattle.registers.specs.Choice.{if_then_else_, _=?_}
+use Rattle.choice.specs.Choice.{if_then_else_, _=?_}
 use Rattle.registers.specs.Counts.{codeOf}
 use Rattle.registers.specs.Commands.{_is_}
 use Rattle.registers.specs.declared.Command.{Command}
@@ -112,7 +112,7 @@ store command place b r =
       overlay = if command is Ovlay then storeOverlay place b (r .overlay) else r .overlay;
       cgram = if command is CgramAdr then word 0 place b (r .cgram) else r .cgram;
       hdot = if command is HdotScr && place =? 0 then bits 2 0 b else r .hdot;
-      gray = if command is GrayScale && place =? 0 then bits 1 0 b else r .gray;
+      grey = if command is GrayScale && place =? 0 then bits 1 0 b else r .grey;
       cursor =
           record {
             address = if command is Csrw then word 0 place b (r .cursor .address) else r .cursor .address;
@@ -143,7 +143,7 @@ begin command b r =
       overlay = r .overlay;
       cgram = r .cgram;
       hdot = r .hdot;
-      gray = r .gray;
+      grey = r .grey;
       cursor =
           record {
             address = r .cursor .address;
@@ -203,7 +203,7 @@ resetRegisters =
       overlay = record { ov = false; dm2 = false; dm1 = false; mx = 0 };
       cgram = 0;
       hdot = 0;
-      gray = 0;
+      grey = 0;
       cursor = record { address = 0; direction = Right };
       asleep = false;
     }

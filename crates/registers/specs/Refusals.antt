@@ -1,7 +1,7 @@
 -- 01, 'Refusal numbers'.
 use Prim.Native.Nat.{ℕ}
 use Rattle.registers.specs.declared.Refusal.{Refusal}
-use Rattle.registers.specs.declared.Refusal.the-variants.{MemorySize, UnknownCommand, NothingWanted, NotAllowed, Asleep, NothingToRead, OutsideMemory, FontSize, GrayMode, CharacterWidth, RowWidth, OddLines, ShortLine, LayerOrder, CursorShape, RowNumber, BufferSize}
+use Rattle.registers.specs.declared.Refusal.the-variants.{MemorySize, UnknownCommand, NothingWanted, NotAllowed, Asleep, NothingToRead, OutsideMemory, FontSize, GreyMode, CharacterWidth, RowWidth, OddLines, ShortLine, LayerOrder, CursorShape, RowNumber, BufferSize}
 use Rattle.registers.specs.declared.Answer.{Answer}
 use Rattle.registers.specs.declared.Answer.the-variants.{Accepted, Refused}
 use Rattle.registers.specs.declared.ReadAnswer.{ReadAnswer}
@@ -25,7 +25,7 @@ number OutsideMemory = 7
 -- font is not 1,280 bytes
 number FontSize = 8
 -- grey set and (DM not 11 or [FX] not 8)
-number GrayMode = 9
+number GreyMode = 9
 -- [FX] above 8
 number CharacterWidth = 10
 -- row wider than 640 dots

@@ -66,7 +66,7 @@ impl Registers {
         self.form = self.form.in_layout();
         self.overlay = self.overlay.in_layout();
         self.hdot = read_field(8, self.hdot);
-        self.gray = read_field(3, self.gray);
+        self.grey = read_field(3, self.grey);
         self
     }
 }

@@ -116,7 +116,7 @@ pub struct Registers {
     pub overlay: Overlay,
     pub cgram: u16,
     pub hdot: u8,
-    pub gray: u8,
+    pub grey: u8,
     pub cursor: Cursor,
     pub asleep: bool,
 }
@@ -131,7 +131,7 @@ pub enum Refusal {
     NothingToRead,
     OutsideMemory,
     FontSize,
-    GrayMode,
+    GreyMode,
     CharacterWidth,
     RowWidth,
     OddLines,

@@ -16,7 +16,7 @@ impl Refusal {
             Refusal::NothingToRead => 6,
             Refusal::OutsideMemory => 7,
             Refusal::FontSize => 8,
-            Refusal::GrayMode => 9,
+            Refusal::GreyMode => 9,
             Refusal::CharacterWidth => 10,
             Refusal::RowWidth => 11,
             Refusal::OddLines => 12,

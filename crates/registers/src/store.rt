@@ -96,7 +96,7 @@ impl Registers {
             },
             cgram: 0,
             hdot: 0,
-            gray: 0,
+            grey: 0,
             cursor: Cursor {
                 address: 0,
                 direction: Direction::Right,
@@ -162,7 +162,7 @@ impl Registers {
             }
             Command::GrayScale => {
                 if place == 0 {
-                    self.gray = b % 4;
+                    self.grey = b % 4;
                 }
             }
             Command::Csrw => {

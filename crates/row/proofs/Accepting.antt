@@ -12,14 +12,14 @@ use Rattle.registers.specs.declared.Answer.{Answer}
 use Rattle.registers.specs.declared.Refusal.{Refusal}
 use Rattle.registers.specs.declared.Refusal.the-variants.{MemorySize, FontSize}
 use Rattle.registers.specs.declared.Registers.{Registers}
-use Rattle.registers.specs.Choice.{if_then_else_, _<?_, _≤?_, _=?_}
+use Rattle.choice.specs.Choice.{if_then_else_, _<?_, _≤?_, _=?_}
 use Rattle.registers.specs.Counts.{⁅_⁆}
 use Rattle.registers.specs.Refusals.{number, reply}
 use Rattle.registers.specs.Sizes.{memorySize, fontSize}
 use Rattle.registers.specs.Layout.{field, inLayout}
 use Rattle.registers.proofs.Numbers.{number-not-0}
 use Rattle.row.specs.Dots.{width, dots}
-use Rattle.row.specs.Refusals.{grayUnfit, linesOdd, orderUnfit, cursorUnfit, rowRefusal}
+use Rattle.row.specs.Refusals.{greyMode, oddLines, layerOrder, cursorShape, rowRefusal}
 use Rattle.row.specs.Rows.{composedOutcome, rowAnswer, rowOutcome}
 use Rattle.row.specs.Columns.{Composable}
 
@@ -28,9 +28,9 @@ passed : (b : Bool) (k x : ℕ) → (if b then suc k else x) ≡ 0 → (b ≡ fa
 passed true k x e = absurd (omega arith)
 passed false k x e = (refl, e)
 
-gray-graphics : (r : Registers) → grayUnfit (r .gray) (r .overlay) (r .system .fx) ≡ false → (r .gray ≡ 0 → ⊥) → (r .overlay .dm1 ≡ true) × (r .overlay .dm2 ≡ true)
-unfolding grayUnfit
-gray-graphics r e ne = go (r .gray =? 0) (r .overlay .dm2) (r .overlay .dm1) (ne-eqb (r .gray) 0 ne) e
+grey-graphics : (r : Registers) → greyMode (r .grey) (r .overlay) (r .system .fx) ≡ false → (r .grey ≡ 0 → ⊥) → (r .overlay .dm1 ≡ true) × (r .overlay .dm2 ≡ true)
+unfolding greyMode
+grey-graphics r e ne = go (r .grey =? 0) (r .overlay .dm2) (r .overlay .dm1) (ne-eqb (r .grey) 0 ne) e
   where
     go : (z d2 d1 : Bool) → z ≡ false → (not z && not (d2 && d1 && ⁅ r .system .fx ⁆ =? 8)) ≡ false → (d1 ≡ true) × (d2 ≡ true)
     go true d2 d1 f g = absurd (subst T f tt)
@@ -39,11 +39,11 @@ gray-graphics r e ne = go (r .gray =? 0) (r .overlay .dm2) (r .overlay .dm1) (ne
     go false false d1 f g = absurd (subst T g tt)
 
 -- a grey code as it is read
-pub gray-code : (registers : Registers) → inLayout registers .gray < 3
+pub grey-code : (registers : Registers) → inLayout registers .grey < 3
 unfolding inLayout field
-gray-code registers = go (registers .gray <? 3) (ltb-true (registers .gray) 3)
+grey-code registers = go (registers .grey <? 3) (ltb-true (registers .grey) 3)
   where
-    go : (b : Bool) → (b ≡ true → registers .gray < 3) → (if b then registers .gray else 0) < 3
+    go : (b : Bool) → (b ≡ true → registers .grey < 3) → (if b then registers .grey else 0) < 3
     go true f = f refl
     go false f = omega arith
 
@@ -51,13 +51,13 @@ gray-code registers = go (registers .gray <? 3) (ltb-true (registers .gray) 3)
 record Passed (r : Registers) (memory font n buffer : ℕ) : Type 0 where
   memory-size : not (memory =? memorySize) ≡ false
   font-size : not (font =? fontSize) ≡ false
-  gray : grayUnfit (r .gray) (r .overlay) (r .system .fx) ≡ false
+  grey : greyMode (r .grey) (r .overlay) (r .system .fx) ≡ false
   narrow : (8 <? ⁅ r .system .fx ⁆) ≡ false
   fits : (640 <? width r) ≡ false
-  even : linesOdd (r .system .ws) (r .system .lf) ≡ false
+  even : oddLines (r .system .ws) (r .system .lf) ≡ false
   long : (r .system .tcr .0 <? r .system .cr .0 + 4) ≡ false
-  order : orderUnfit (r .system .ws) (r .overlay) (r .blocks) ≡ false
-  cursor : cursorUnfit (r .display .fc) (r .form) (r .system .fx) ≡ false
+  order : layerOrder (r .system .ws) (r .overlay) (r .blocks) ≡ false
+  cursor : cursorShape (r .display .fc) (r .form) (r .system .fx) ≡ false
   below : (⁅ r .system .lf ⁆ ≤? n) ≡ false
   whole : not (buffer =? width r) ≡ false
 
@@ -66,19 +66,19 @@ unfolding rowRefusal
 passes r memory font n buffer e =
     let p1 = passed (not (memory =? memorySize)) 0 _ e in
     let p8 = passed (not (font =? fontSize)) 7 _ (p1 .1) in
-    let p9 = passed (grayUnfit (r .gray) (r .overlay) (r .system .fx)) 8 _ (p8 .1) in
+    let p9 = passed (greyMode (r .grey) (r .overlay) (r .system .fx)) 8 _ (p8 .1) in
     let p10 = passed (8 <? ⁅ r .system .fx ⁆) 9 _ (p9 .1) in
     let p11 = passed (640 <? width r) 10 _ (p10 .1) in
-    let p12 = passed (linesOdd (r .system .ws) (r .system .lf)) 11 _ (p11 .1) in
+    let p12 = passed (oddLines (r .system .ws) (r .system .lf)) 11 _ (p11 .1) in
     let p13 = passed (r .system .tcr .0 <? r .system .cr .0 + 4) 12 _ (p12 .1) in
-    let p14 = passed (orderUnfit (r .system .ws) (r .overlay) (r .blocks)) 13 _ (p13 .1) in
-    let p15 = passed (cursorUnfit (r .display .fc) (r .form) (r .system .fx)) 14 _ (p14 .1) in
+    let p14 = passed (layerOrder (r .system .ws) (r .overlay) (r .blocks)) 13 _ (p13 .1) in
+    let p15 = passed (cursorShape (r .display .fc) (r .form) (r .system .fx)) 14 _ (p14 .1) in
     let p16 = passed (⁅ r .system .lf ⁆ ≤? n) 15 _ (p15 .1) in
     let p17 = passed (not (buffer =? width r)) 16 _ (p16 .1) in
     record {
       memory-size = p1 .0;
       font-size = p8 .0;
-      gray = p9 .0;
+      grey = p9 .0;
       narrow = p10 .0;
       fits = p11 .0;
       even = p12 .0;
@@ -94,13 +94,13 @@ pub record Composed (r : Registers) (n buffer : ℕ) : Type 0 where
   pub whole : buffer ≡ width r
   pub composable : Composable r
 
-pub accepted : (r : Registers) → r .gray < 3 → (memory font n buffer : ℕ) → rowRefusal r memory font n buffer ≡ 0 → Composed r n buffer
+pub accepted : (r : Registers) → r .grey < 3 → (memory font n buffer : ℕ) → rowRefusal r memory font n buffer ≡ 0 → Composed r n buffer
 accepted r code memory font n buffer e =
     let p = passes r memory font n buffer e in
     record {
       below = leb-false ⁅ r .system .lf ⁆ n (p .below);
       whole = eqb-true buffer (width r) (not-false (buffer =? width r) (p .whole));
-      composable = record { code = code; narrow = ltb-false 8 ⁅ r .system .fx ⁆ (p .narrow); graphics = gray-graphics r (p .gray); order = p .order };
+      composable = record { code = code; narrow = ltb-false 8 ⁅ r .system .fx ⁆ (p .narrow); graphics = grey-graphics r (p .grey); order = p .order };
     }
 
 -- an accepted row has at most 640 dots
@@ -112,7 +112,7 @@ pub other-row : (r : Registers) (memory font n k buffer : ℕ) → rowRefusal r 
 unfolding rowRefusal
 other-row r memory font n k buffer e h =
     let p = passes r memory font n buffer e in
-    rw (p .memory-size, p .font-size, p .gray, p .narrow, p .fits, p .even, p .long, p .order, p .cursor, lt-leb ⁅ r .system .lf ⁆ k h, p .whole)
+    rw (p .memory-size, p .font-size, p .grey, p .narrow, p .fits, p .even, p .long, p .order, p .cursor, lt-leb ⁅ r .system .lf ⁆ k h, p .whole)
 
 -- a row that is too wide is refused whatever its buffer
 pub wide-refused : (r : Registers) (memory font n : ℕ) → 640 < width r

@@ -11,9 +11,9 @@ use lib.Dec.{T, eqb→eq}
 use lib.Pow.{pow-pos}
 use borrow.Author.Tests.{lt-ltb, le-ltb}
 use Rattle.registers.specs.declared.Registers.{Registers}
-use Rattle.registers.specs.Choice.{if_then_else_, _<?_, _=?_}
+use Rattle.choice.specs.Choice.{if_then_else_, _<?_, _=?_}
 use Rattle.registers.specs.Counts.{⁅_⁆}
-use Rattle.registers.proofs.Below.{allBelow, all-below}
+use Rattle.choice.proofs.Below.{allBelow, all-below}
 use Rattle.row.specs.declared.LayerRow.{LayerRow}
 use Rattle.row.specs.declared.LayerRow.the-variants.{Nothing, Block}
 use Rattle.row.specs.Layers.{isText, sad, threeLayers, layer1, layer2, layer3}
@@ -95,8 +95,8 @@ dot-nibbles a b c =
     (simp div-one (omega (arith, first-mod 16 a b c (omega arith))))
 
 -- dot j of the n of a column
-mix-first : (gray n a b c j : ℕ) → Room gray n → j < n
-    → dotOf (2 ^ gray) (firstByte gray a b c) j ≡ firstOf (dotOf (2 ^ gray) a j) (dotOf (2 ^ gray) b j) (dotOf (2 ^ gray) c j)
+mix-first : (grey n a b c j : ℕ) → Room grey n → j < n
+    → dotOf (2 ^ grey) (firstByte grey a b c) j ≡ firstOf (dotOf (2 ^ grey) a j) (dotOf (2 ^ grey) b j) (dotOf (2 ^ grey) c j)
 unfolding firstByte
 mix-first zero n a b c j h l =
     dot-or 1 (bitOr a b) c j ∙ ap (λ (x : ℕ). bitOr x (dotOf 1 c j)) (dot-or 1 a b j)
@@ -105,16 +105,16 @@ mix-first (suc zero) n a b c j h l = dot-pairs a b c j (rw (h .two refl) at l)
 mix-first (suc (suc zero)) n a b c j h l = dot-nibbles a b c j (rw (h .four refl) at l)
 mix-first (suc (suc (suc g))) n a b c j h l = absurd (let z = h .code in omega arith)
 
-mix-dots : (mx gray n a b c j : ℕ) → Room gray n → j < n
-    → dotOf (2 ^ gray) (mixByte mx gray a b c) j ≡ mix mx (dotOf (2 ^ gray) a j) (dotOf (2 ^ gray) b j) (dotOf (2 ^ gray) c j)
+mix-dots : (mx grey n a b c j : ℕ) → Room grey n → j < n
+    → dotOf (2 ^ grey) (mixByte mx grey a b c) j ≡ mix mx (dotOf (2 ^ grey) a j) (dotOf (2 ^ grey) b j) (dotOf (2 ^ grey) c j)
 unfolding mixByte mix
-mix-dots mx gray n a b c j h l = go (mx =? 0) (mx =? 1) (mx =? 2)
+mix-dots mx grey n a b c j h l = go (mx =? 0) (mx =? 1) (mx =? 2)
   where
     k : ℕ
-    k = 2 ^ gray
+    k = 2 ^ grey
 
     go : (x y z : Bool)
-        → dotOf k (if x then bitOr (bitOr a b) c else if y then bitOr (bitXor a b) c else if z then bitOr (bitAnd a b) c else firstByte gray a b c) j
+        → dotOf k (if x then bitOr (bitOr a b) c else if y then bitOr (bitXor a b) c else if z then bitOr (bitAnd a b) c else firstByte grey a b c) j
         ≡ (if x then bitOr (bitOr (dotOf k a j) (dotOf k b j)) (dotOf k c j)
         else if y then bitOr (bitXor (dotOf k a j) (dotOf k b j)) (dotOf k c j)
         else if z then bitOr (bitAnd (dotOf k a j) (dotOf k b j)) (dotOf k c j)
@@ -122,7 +122,7 @@ mix-dots mx gray n a b c j h l = go (mx =? 0) (mx =? 1) (mx =? 2)
     go true y z = rw (dot-or k (bitOr a b) c j, dot-or k a b j)
     go false true z = rw (dot-or k (bitXor a b) c j, dot-xor k a b j)
     go false false true = rw (dot-or k (bitAnd a b) c j, dot-and k a b j)
-    go false false false = mix-first gray n a b c j h l
+    go false false false = mix-first grey n a b c j h l
 
 -- The cursor
 
@@ -159,27 +159,27 @@ with-cursor start cursor c a j crx h = go ((start + c) % 65536 =? cursor)
     go false = refl
 
 -- text is shown at one bit a dot alone
-text-one-bit : (r : Registers) → Composable r → (block : ℕ) → isText (r .overlay) block ≡ true → r .gray ≡ 0
+text-one-bit : (r : Registers) → Composable r → (block : ℕ) → isText (r .overlay) block ≡ true → r .grey ≡ 0
 unfolding isText
-text-one-bit r h block e = ⊎-elim (λ z. z) (λ pos. absurd (no-text pos)) (eq-zero-or-pos (r .gray))
+text-one-bit r h block e = ⊎-elim (λ z. z) (λ pos. absurd (no-text pos)) (eq-zero-or-pos (r .grey))
   where
     go : (x y : Bool) → (if x then not true else if y then not true else false) ≡ false
     go true y = refl
     go false true = refl
     go false false = refl
 
-    no-text : 0 < r .gray → ⊥
+    no-text : 0 < r .grey → ⊥
     no-text pos =
-        let g = h .graphics (λ z. let q : r .gray ≡ 0 = z in omega arith) in
+        let g = h .graphics (λ z. let q : r .grey ≡ 0 = z in omega arith) in
         let f : isText (r .overlay) block ≡ false = rw (g .0, g .1) (go (block =? 1) (block =? 3)) in
         let z : _≡_ {A = Bool} true false = sym e ∙ f in
         subst T z tt
 
-cursor-dots : (r : Registers) (frame : ℕ) (layer : LayerRow) (c a j : ℕ) → Composable r → (r .gray ≡ 0 → j < 8)
-    → dotOf (bitsPerDot (r .gray)) (invertedByte (cursorRowOf r layer frame) (r .cursor .address) c a) j
-    ≡ inverted (hasCursor r frame layer c) ⁅ r .form .crx ⁆ j (dotOf (bitsPerDot (r .gray)) a j)
+cursor-dots : (r : Registers) (frame : ℕ) (layer : LayerRow) (c a j : ℕ) → Composable r → (r .grey ≡ 0 → j < 8)
+    → dotOf (bitsPerDot (r .grey)) (invertedByte (cursorRowOf r layer frame) (r .cursor .address) c a) j
+    ≡ inverted (hasCursor r frame layer c) ⁅ r .form .crx ⁆ j (dotOf (bitsPerDot (r .grey)) a j)
 unfolding cursorRowOf cursorMask hasCursor inverted codeAddress
-cursor-dots r frame Nothing c a j h low = no-cursor (bitsPerDot (r .gray)) 0 (r .cursor .address) c a j
+cursor-dots r frame Nothing c a j h low = no-cursor (bitsPerDot (r .grey)) 0 (r .cursor .address) c a j
 cursor-dots r frame (Block block q) c a j h low =
     go (threeLayers (r .system .ws) (r .overlay)) (isText (r .overlay) block) (cursorOn (r .display .fc) frame) (inShape (r .form) (q % ⁅ r .system .fy ⁆)) (text-one-bit r h block)
   where
@@ -192,20 +192,20 @@ cursor-dots r frame (Block block q) c a j h low =
     code : ℕ
     code = sad (r .blocks) block + q / ⁅ r .system .fy ⁆ * r .system .ap + c
 
-    off : dotOf (bitsPerDot (r .gray)) (invertedByte (cursorRow start 0) (r .cursor .address) c a) j ≡ dotOf (bitsPerDot (r .gray)) a j
-    off = no-cursor (bitsPerDot (r .gray)) start (r .cursor .address) c a j
+    off : dotOf (bitsPerDot (r .grey)) (invertedByte (cursorRow start 0) (r .cursor .address) c a) j ≡ dotOf (bitsPerDot (r .grey)) a j
+    off = no-cursor (bitsPerDot (r .grey)) start (r .cursor .address) c a j
 
-    hit : r .gray ≡ 0
-        → dotOf (bitsPerDot (r .gray)) (invertedByte (cursorRow start (firstBits crx)) (r .cursor .address) c a) j
-        ≡ inverted (code % 65536 =? r .cursor .address) crx j (dotOf (bitsPerDot (r .gray)) a j)
+    hit : r .grey ≡ 0
+        → dotOf (bitsPerDot (r .grey)) (invertedByte (cursorRow start (firstBits crx)) (r .cursor .address) c a) j
+        ≡ inverted (code % 65536 =? r .cursor .address) crx j (dotOf (bitsPerDot (r .grey)) a j)
     hit e =
         subst (λ (g : ℕ). dotOf (2 ^ g) (invertedByte (cursorRow start (firstBits crx)) (r .cursor .address) c a) j
         ≡ inverted (code % 65536 =? r .cursor .address) crx j (dotOf (2 ^ g) a j)) (sym e)
         (with-cursor start (r .cursor .address) c a j crx (low e) ∙ ap (λ (x : ℕ). inverted (x =? r .cursor .address) crx j (dotOf 1 a j)) (omega arith))
 
-    go : (three text on shape : Bool) → (text ≡ true → r .gray ≡ 0)
-        → dotOf (bitsPerDot (r .gray)) (invertedByte (cursorRow start (if three then 0 else if text then (if on then (if shape then firstBits crx else 0) else 0) else 0)) (r .cursor .address) c a) j
-        ≡ inverted (not three && text && on && shape && code % 65536 =? r .cursor .address) crx j (dotOf (bitsPerDot (r .gray)) a j)
+    go : (three text on shape : Bool) → (text ≡ true → r .grey ≡ 0)
+        → dotOf (bitsPerDot (r .grey)) (invertedByte (cursorRow start (if three then 0 else if text then (if on then (if shape then firstBits crx else 0) else 0) else 0)) (r .cursor .address) c a) j
+        ≡ inverted (not three && text && on && shape && code % 65536 =? r .cursor .address) crx j (dotOf (bitsPerDot (r .grey)) a j)
     go true text on shape g = off
     go false false on shape g = off
     go false true false shape g = off
@@ -214,18 +214,18 @@ cursor-dots r frame (Block block q) c a j h low =
 
 -- Columns and rows
 
-column-dot : (r : Registers) (memory font : List ℕ) (frame n c j p : ℕ) → Composable r → Room (r .gray) p → j < p
-    → dotOf (bitsPerDot (r .gray)) (columnByte (columnSetup r) (layerSource r (layer1 r n) frame) (layerSource r (layer2 r n) frame) (layerSource r (layer3 r n) frame) (cursorRowOf r (layer1 r n) frame) memory font c) j
+column-dot : (r : Registers) (memory font : List ℕ) (frame n c j p : ℕ) → Composable r → Room (r .grey) p → j < p
+    → dotOf (bitsPerDot (r .grey)) (columnByte (columnSetup r) (layerSource r (layer1 r n) frame) (layerSource r (layer2 r n) frame) (layerSource r (layer3 r n) frame) (cursorRowOf r (layer1 r n) frame) memory font c) j
     ≡ columnDot r memory font frame n c j
 unfolding columnByte columnDot
 column-dot r memory font frame n c j p h room l =
-    mix-dots (r .overlay .mx) (r .gray) p _ _ _ j room l
+    mix-dots (r .overlay .mx) (r .grey) p _ _ _ j room l
     ∙ rw (cursor-dots r frame (layer1 r n) c _ j h (λ e. let z = room .one e in omega arith), source-layer r memory font frame (layer1 r n) c, graphics-layer r memory font frame (layer2 r n) c (second-graphics r n h), graphics-layer r memory font frame (layer3 r n) c (third-graphics r n))
 
-pub columns-room : (r : Registers) → Composable r → (0 < perColumn r) × Room (r .gray) (perColumn r)
+pub columns-room : (r : Registers) → Composable r → (0 < perColumn r) × Room (r .grey) (perColumn r)
 unfolding dotsPerColumn
 columns-room r h = (
-  go (r .gray) (h .code),
+  go (r .grey) (h .code),
   record {
     code = h .code;
     one = λ e. subst (λ (g : ℕ). (if g =? 0 then ⁅ r .system .fx ⁆ else 8 / 2 ^ g) ≤ 8) (sym e) (h .narrow);

@@ -9,7 +9,7 @@ use borrow.Author.Tests.{lt-ltb, leb-false}
 use Rattle.registers.specs.declared.Blocks.{Blocks}
 use Rattle.registers.specs.declared.Overlay.{Overlay}
 use Rattle.registers.specs.declared.Registers.{Registers}
-use Rattle.registers.specs.Choice.{if_then_else_, _<?_, _≤?_}
+use Rattle.choice.specs.Choice.{if_then_else_, _<?_, _≤?_}
 use Rattle.registers.specs.Counts.{⁅_⁆}
 use Rattle.row.specs.declared.LayerRow.{LayerRow}
 use Rattle.row.specs.declared.LayerRow.the-variants.{Nothing, Block}
@@ -18,7 +18,7 @@ use Rattle.row.specs.Layers.{isText, sad, dm11, threeLayers, split, halv
 use Rattle.row.specs.Glyphs.{fetch, glyphByte, codeAddress, blockByte}
 use Rattle.row.specs.Flashing.{isLit}
 use Rattle.row.specs.Dots.{layerByte}
-use Rattle.row.specs.Refusals.{orderUnfit}
+use Rattle.row.specs.Refusals.{layerOrder}
 use Rattle.row.specs.Columns.{lineAddress, blockSource, layerSource, columnSetup, graphicsByte, sourceByte, Composable}
 use Rattle.row.proofs.Addresses.{fetch-at}
 
@@ -77,7 +77,7 @@ third-graphics r n = go (threeLayers (r .system .ws) (r .overlay)) (three-dm2 (r
     go false e = refl
 
 pub second-graphics : (r : Registers) (n : ℕ) → Composable r → showsText r (layer2 r n) ≡ false
-unfolding layer2 orderUnfit isText split halves
+unfolding layer2 layerOrder isText split halves
 second-graphics r n h =
     go (r .system .ws) (threeLayers (r .system .ws) (r .overlay)) (b .sl1 .0 ≤? b .sl2 .0) (b .sl2 .0 <? b .sl1 .0) (n <? ⁅ r .system .lf ⁆ / 2) (n <? ⁅ b .sl2 ⁆)
     (h .order) (λ e. lt-ltb (b .sl2 .0) (b .sl1 .0) (leb-false (b .sl1 .0) (b .sl2 .0) e))

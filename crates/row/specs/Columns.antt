@@ -8,7 +8,7 @@ use lib.ListN.{getD}
 use Rattle.registers.specs.declared.Code.{Code}
 use Rattle.registers.specs.declared.CursorForm.{CursorForm}
 use Rattle.registers.specs.declared.Registers.{Registers}
-use Rattle.registers.specs.Choice.{if_then_else_, _<?_, _=?_}
+use Rattle.choice.specs.Choice.{if_then_else_, _<?_, _=?_}
 use Rattle.registers.specs.Counts.{⁅_⁆}
 use Rattle.row.specs.declared.LayerRow.{LayerRow}
 use Rattle.row.specs.declared.LayerRow.the-variants.{Nothing, Block}
@@ -23,7 +23,7 @@ use Rattle.row.specs.Flashing.{isLit, cursorOn}
 use Rattle.row.specs.Cursor.{inShape}
 use Rattle.row.specs.Mixing.{firstOf}
 use Rattle.row.specs.Dots.{dotOf}
-use Rattle.row.specs.Refusals.{orderUnfit}
+use Rattle.row.specs.Refusals.{layerOrder}
 
 -- the address of row q of a block, or of its text line q
 abbrev pub lineAddress : ℕ → ℕ → ℕ → ℕ
@@ -45,7 +45,7 @@ layerSource r (Block block q) frame =
 
 abbrev pub columnSetup : Registers → ColumnSetup
 columnSetup r =
-    record { m0 = r .system .m0; m2 = r .system .m2; cgram = r .cgram; mx = r .overlay .mx; gray = r .gray; cursor = r .cursor .address }
+    record { m0 = r .system .m0; m2 = r .system .m2; cgram = r .cgram; mx = r .overlay .mx; grey = r .grey; cursor = r .cursor .address }
 
 -- a byte of a layer without text
 unfoldable pub graphicsByte : Source → List ℕ → ℕ → ℕ
@@ -93,29 +93,29 @@ firstNibbles a b c = firstOf (a / 16 % 16) (b / 16 % 16) (c / 16 % 16) % 16 * 16
 
 -- the first that isn't 0 of each group of bits at a grey code; at one bit it is the OR
 unfoldable pub firstByte : ℕ → ℕ → ℕ → ℕ → ℕ
-firstByte gray a b c = if gray =? 0 then bitOr (bitOr a b) c else if gray =? 1 then firstPairs a b c else firstNibbles a b c
+firstByte grey a b c = if grey =? 0 then bitOr (bitOr a b) c else if grey =? 1 then firstPairs a b c else firstNibbles a b c
 
 unfoldable pub mixByte : ℕ → ℕ → ℕ → ℕ → ℕ → ℕ
-mixByte mx gray a b c =
+mixByte mx grey a b c =
     if mx =? 0 then bitOr (bitOr a b) c
     else if mx =? 1 then bitOr (bitXor a b) c
     else if mx =? 2 then bitOr (bitAnd a b) c
-    else firstByte gray a b c
+    else firstByte grey a b c
 
 unfoldable pub columnByte : ColumnSetup → Source → Source → Source → CursorRow → List ℕ → List ℕ → ℕ → ℕ
 columnByte k one two three cursor memory font c =
-    mixByte (k .mx) (k .gray) (invertedByte cursor (k .cursor) c (sourceByte k one memory font c))
+    mixByte (k .mx) (k .grey) (invertedByte cursor (k .cursor) c (sourceByte k one memory font c))
     (graphicsByte two memory c) (graphicsByte three memory c)
 
 -- dot x of a row of such bytes
 unfoldable pub columnsDot : ColumnSetup → Source → Source → Source → CursorRow → List ℕ → List ℕ → ℕ → ℕ → ℕ
 columnsDot k one two three cursor memory font perColumn x =
-    dotOf (2 ^ k .gray) (columnByte k one two three cursor memory font (x / perColumn)) (x % perColumn)
+    dotOf (2 ^ k .grey) (columnByte k one two three cursor memory font (x / perColumn)) (x % perColumn)
 
 -- the first refusal of a row that applies, once memory and font have their sizes
 unfoldable pub firstRefusal : RowChecks → ℕ
 firstRefusal k =
-    if k .«gray_mode» then 9
+    if k .«grey_mode» then 9
     else if k .«character_width» then 10
     else if k .«row_width» then 11
     else if k .«odd_lines» then 12
@@ -127,15 +127,15 @@ firstRefusal k =
     else 0
 
 -- n dots are what a byte gives at a grey code
-pub record Room (gray n : ℕ) : Type 0 where
-  pub code : gray < 3
-  pub one : gray ≡ 0 → n ≤ 8
-  pub two : gray ≡ 1 → n ≡ 4
-  pub four : gray ≡ 2 → n ≡ 2
+pub record Room (grey n : ℕ) : Type 0 where
+  pub code : grey < 3
+  pub one : grey ≡ 0 → n ≤ 8
+  pub two : grey ≡ 1 → n ≡ 4
+  pub four : grey ≡ 2 → n ≡ 2
 
 -- what the refusals leave: grey with DM = 11 alone, at most 8 dots a column, and text in layer 1 alone
 pub record Composable (r : Registers) : Type 0 where
-  pub code : r .gray < 3
+  pub code : r .grey < 3
   pub narrow : ⁅ r .system .fx ⁆ ≤ 8
-  pub graphics : (r .gray ≡ 0 → ⊥) → (r .overlay .dm1 ≡ true) × (r .overlay .dm2 ≡ true)
-  pub order : orderUnfit (r .system .ws) (r .overlay) (r .blocks) ≡ false
+  pub graphics : (r .grey ≡ 0 → ⊥) → (r .overlay .dm1 ≡ true) × (r .overlay .dm2 ≡ true)
+  pub order : layerOrder (r .system .ws) (r .overlay) (r .blocks) ≡ false

@@ -3,7 +3,7 @@ use Prim.Native.Nat.{ℕ, _-_, _%_}
 use mathlib.Core.Bool.{Bool, false, not, _&&_}
 use Rattle.registers.specs.declared.CursorForm.{CursorForm}
 use Rattle.registers.specs.declared.Registers.{Registers}
-use Rattle.registers.specs.Choice.{if_then_else_, _<?_, _=?_}
+use Rattle.choice.specs.Choice.{if_then_else_, _<?_, _=?_}
 use Rattle.registers.specs.Counts.{⁅_⁆}
 use Rattle.row.specs.Layers.{isText, threeLayers}
 use Rattle.row.specs.Glyphs.{codeAddress}

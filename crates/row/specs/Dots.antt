@@ -4,7 +4,7 @@ use mathlib.Core.Bool.{not, _&&_}
 use mathlib.Core.List.{List, [], _∷_}
 use Rattle.registers.specs.declared.Code.{Code}
 use Rattle.registers.specs.declared.Registers.{Registers}
-use Rattle.registers.specs.Choice.{if_then_else_, _=?_}
+use Rattle.choice.specs.Choice.{if_then_else_, _=?_}
 use Rattle.registers.specs.Counts.{⁅_⁆}
 use Rattle.row.specs.Layers.{layer1, layer2, layer3}
 use Rattle.row.specs.Glyphs.{blockByte}
@@ -16,14 +16,14 @@ use Rattle.row.specs.declared.LayerRow.the-variants.{Nothing, Block}
 
 -- GRAY SCALE 0, 1, 2 mean 1, 2, 4 bits a dot
 abbrev pub bitsPerDot : ℕ → ℕ
-bitsPerDot gray = 2 ^ gray
+bitsPerDot grey = 2 ^ grey
 
 -- the dots of a column: [FX], in grey 8 / bits a dot
 unfoldable pub dotsPerColumn : ℕ → Code → ℕ
-dotsPerColumn gray fx = if gray =? 0 then ⁅ fx ⁆ else 8 / bitsPerDot gray
+dotsPerColumn grey fx = if grey =? 0 then ⁅ fx ⁆ else 8 / bitsPerDot grey
 
 abbrev pub perColumn : Registers → ℕ
-perColumn r = dotsPerColumn (r .gray) (r .system .fx)
+perColumn r = dotsPerColumn (r .grey) (r .system .fx)
 
 -- Width: [C/R] x [FX] dots, in grey [C/R] x 8 / bits a dot
 unfoldable pub width : Registers → ℕ
@@ -41,7 +41,7 @@ layerByte r memory font frame (Block block q) c = if isLit (r .display .fp) bloc
 -- dot j of column c of row n, with the cursor in layer 1
 unfoldable pub columnDot : Registers → List ℕ → List ℕ → ℕ → ℕ → ℕ → ℕ → ℕ
 columnDot r memory font frame n c j =
-    let layerDot : LayerRow → ℕ = λ layer. dotOf (bitsPerDot (r .gray)) (layerByte r memory font frame layer c) j in
+    let layerDot : LayerRow → ℕ = λ layer. dotOf (bitsPerDot (r .grey)) (layerByte r memory font frame layer c) j in
     mix (r .overlay .mx)
     (inverted (hasCursor r frame (layer1 r n) c) ⁅ r .form .crx ⁆ j (layerDot (layer1 r n)))
     (layerDot (layer2 r n))

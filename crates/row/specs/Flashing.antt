@@ -1,7 +1,7 @@
 -- 01, 'Blocks and layers of a row': flashing.
 use Prim.Native.Nat.{ℕ, _*_, _%_}
 use mathlib.Core.Bool.{Bool, true, false}
-use Rattle.registers.specs.Choice.{if_then_else_, _<?_, _=?_}
+use Rattle.choice.specs.Choice.{if_then_else_, _<?_, _=?_}
 use Rattle.registers.specs.Parameters.{bits}
 
 -- something with a period is on when 10 x (frame number mod period) is below 7 x period

@@ -4,7 +4,7 @@ use mathlib.Core.Bool.{Bool, _||_}
 use mathlib.Core.List.{List}
 use lib.ListN.{getD}
 use Rattle.registers.specs.declared.Registers.{Registers}
-use Rattle.registers.specs.Choice.{if_then_else_, _<?_}
+use Rattle.choice.specs.Choice.{if_then_else_, _<?_}
 use Rattle.registers.specs.Counts.{⁅_⁆}
 use Rattle.row.specs.Layers.{isText, sad}
 use Rattle.row.specs.declared.Glyph.{Glyph}

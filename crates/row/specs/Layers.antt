@@ -5,7 +5,7 @@ use Rattle.registers.specs.declared.Code.{Code}
 use Rattle.registers.specs.declared.Blocks.{Blocks}
 use Rattle.registers.specs.declared.Overlay.{Overlay}
 use Rattle.registers.specs.declared.Registers.{Registers}
-use Rattle.registers.specs.Choice.{if_then_else_, _<?_, _≤?_, _=?_}
+use Rattle.choice.specs.Choice.{if_then_else_, _<?_, _≤?_, _=?_}
 use Rattle.registers.specs.Counts.{⁅_⁆}
 use Rattle.row.specs.declared.LayerRow.{LayerRow}
 use Rattle.row.specs.declared.LayerRow.the-variants.{Nothing, Block}

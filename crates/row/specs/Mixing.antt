@@ -1,7 +1,7 @@
 -- 01, 'Blocks and layers of a row': MX, on dot values.
 use Prim.Native.Nat.{ℕ}
 use lib.Bits.{bitAnd, bitOr, bitXor}
-use Rattle.registers.specs.Choice.{if_then_else_, _=?_}
+use Rattle.choice.specs.Choice.{if_then_else_, _=?_}
 
 -- the first that isn't 0
 unfoldable pub firstOf : ℕ → ℕ → ℕ → ℕ

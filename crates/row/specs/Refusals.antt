@@ -6,27 +6,27 @@ use Rattle.registers.specs.declared.Blocks.{Blocks}
 use Rattle.registers.specs.declared.CursorForm.{CursorForm}
 use Rattle.registers.specs.declared.Overlay.{Overlay}
 use Rattle.registers.specs.declared.Registers.{Registers}
-use Rattle.registers.specs.Choice.{if_then_else_, _<?_, _≤?_, _=?_}
+use Rattle.choice.specs.Choice.{if_then_else_, _<?_, _≤?_, _=?_}
 use Rattle.registers.specs.Counts.{⁅_⁆}
 use Rattle.registers.specs.Sizes.{memorySize, fontSize}
 use Rattle.row.specs.Layers.{dm11, threeLayers}
 use Rattle.row.specs.Dots.{width}
 
 -- 9: grey set and (DM not 11 or [FX] not 8)
-unfoldable pub grayUnfit : ℕ → Overlay → Code → Bool
-grayUnfit gray o fx = not (gray =? 0) && not (dm11 o && ⁅ fx ⁆ =? 8)
+unfoldable pub greyMode : ℕ → Overlay → Code → Bool
+greyMode grey o fx = not (grey =? 0) && not (dm11 o && ⁅ fx ⁆ =? 8)
 
 -- 12: W/S = 1 and [L/F] odd
-unfoldable pub linesOdd : Bool → Code → Bool
-linesOdd ws lf = ws && ⁅ lf ⁆ % 2 =? 1
+unfoldable pub oddLines : Bool → Code → Bool
+oddLines ws lf = ws && ⁅ lf ⁆ % 2 =? 1
 
 -- 14: W/S = 0, two layers, SL2 below SL1, DM not 11
-unfoldable pub orderUnfit : Bool → Overlay → Blocks → Bool
-orderUnfit ws o b = not ws && not (threeLayers ws o) && b .sl2 .0 <? b .sl1 .0 && not (dm11 o)
+unfoldable pub layerOrder : Bool → Overlay → Blocks → Bool
+layerOrder ws o b = not ws && not (threeLayers ws o) && b .sl2 .0 <? b .sl1 .0 && not (dm11 o)
 
 -- 15: FC not 00, and (CRY code 0 or [CRX] above [FX])
-unfoldable pub cursorUnfit : ℕ → CursorForm → Code → Bool
-cursorUnfit fc f fx = not (fc =? 0) && (f .cry .0 =? 0 || ⁅ fx ⁆ <? ⁅ f .crx ⁆)
+unfoldable pub cursorShape : ℕ → CursorForm → Code → Bool
+cursorShape fc f fx = not (fc =? 0) && (f .cry .0 =? 0 || ⁅ fx ⁆ <? ⁅ f .crx ⁆)
 
 -- the refusal of row n, or 0; memory, font and buffer are their lengths
 unfoldable pub rowRefusal : Registers → ℕ → ℕ → ℕ → ℕ → ℕ
@@ -34,13 +34,13 @@ rowRefusal r memory font n buffer =
     let s = r .system in
     if not (memory =? memorySize) then 1
     else if not (font =? fontSize) then 8
-    else if grayUnfit (r .gray) (r .overlay) (s .fx) then 9
+    else if greyMode (r .grey) (r .overlay) (s .fx) then 9
     else if 8 <? ⁅ s .fx ⁆ then 10
     else if 640 <? width r then 11
-    else if linesOdd (s .ws) (s .lf) then 12
+    else if oddLines (s .ws) (s .lf) then 12
     else if s .tcr .0 <? s .cr .0 + 4 then 13
-    else if orderUnfit (s .ws) (r .overlay) (r .blocks) then 14
-    else if cursorUnfit (r .display .fc) (r .form) (s .fx) then 15
+    else if layerOrder (s .ws) (r .overlay) (r .blocks) then 14
+    else if cursorShape (r .display .fc) (r .form) (s .fx) then 15
     else if ⁅ s .lf ⁆ ≤? n then 16
     else if not (buffer =? width r) then 17
     else 0

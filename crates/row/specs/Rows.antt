@@ -4,7 +4,7 @@ use mathlib.Core.List.{List, []}
 use lib.ListN.{length}
 use Rattle.registers.specs.declared.Answer.{Answer}
 use Rattle.registers.specs.declared.Registers.{Registers}
-use Rattle.registers.specs.Choice.{if_then_else_, _=?_}
+use Rattle.choice.specs.Choice.{if_then_else_, _=?_}
 use Rattle.registers.specs.Counts.{count}
 use Rattle.registers.specs.Refusals.{reply}
 use Rattle.registers.specs.Layout.{inLayout}

@@ -38,7 +38,7 @@ fn column(
     let a = invert(cursor, k.cursor, c, source_byte(k, one, memory, font, c));
     let b = graphics_byte(two, memory, c);
     let d = graphics_byte(three, memory, c);
-    mix_byte(k.mx, k.gray, a, b, d)
+    mix_byte(k.mx, k.grey, a, b, d)
 }
 
 // The dots of all columns.
@@ -54,16 +54,16 @@ pub fn columns(
     per: usize,
     out: &mut [u8],
 )
-    requires { ⌜ (length (now out) ≡ count * per) × (0 < per) × Room (k .gray) per ⌝ }
+    requires { ⌜ (length (now out) ≡ count * per) × (0 < per) × Room (k .grey) per ⌝ }
     ensures { λ _. ⌜ now (out .exit) ≡ table (count * per) (columnsDot k one two three cursor (now (memory .entry)) (now (font .entry)) per) ⌝ }
 {
-    let gray = k.gray;
+    let grey = k.grey;
     let mut c: u16 = 0;
     let mut at: usize = 0;
     while c < count {
         let b = column(k, one, two, three, cursor, memory, font, c);
         let end = at + per;
-        spread(gray, b, &mut out[at..end]);
+        spread(grey, b, &mut out[at..end]);
         at = end;
         c += 1;
     }

@@ -46,7 +46,7 @@ pub struct ColumnSetup {
     pub m2: bool,
     pub cgram: u16,
     pub mx: u8,
-    pub gray: u8,
+    pub grey: u8,
     pub cursor: u16,
 }
 
@@ -58,7 +58,7 @@ pub struct FrameSize {
 
 // Which refusals of a row apply, once memory and font have their sizes.
 pub struct RowChecks {
-    pub gray_mode: bool,
+    pub grey_mode: bool,
     pub character_width: bool,
     pub row_width: bool,
     pub odd_lines: bool,

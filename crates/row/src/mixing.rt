@@ -32,8 +32,8 @@ fn first_nibbles(a: u8, b: u8, c: u8) -> u8
 }
 
 // At one bit a dot the first that is not 0 is the OR.
-pub fn mix_byte(mx: u8, gray: u8, a: u8, b: u8, c: u8) -> u8
-    ensures { λ r. ⌜ r ≡ mixByte mx gray a b c ⌝ }
+pub fn mix_byte(mx: u8, grey: u8, a: u8, b: u8, c: u8) -> u8
+    ensures { λ r. ⌜ r ≡ mixByte mx grey a b c ⌝ }
 {
     if mx == 0 {
         return a | b | c;
@@ -44,10 +44,10 @@ pub fn mix_byte(mx: u8, gray: u8, a: u8, b: u8, c: u8) -> u8
     if mx == 2 {
         return (a & b) | c;
     }
-    if gray == 0 {
+    if grey == 0 {
         return a | b | c;
     }
-    if gray == 1 {
+    if grey == 1 {
         return first_pairs(a, b, c);
     }
     first_nibbles(a, b, c)

@@ -15,16 +15,16 @@ ghost use Rattle.registers.specs.Sizes.{memorySize, fontSize};
 ghost use Rattle.registers.specs.Counts.{⁅_⁆};
 ghost use Rattle.row.specs.Columns.{firstRefusal};
 ghost use Rattle.row.specs.Dots.{dotsPerColumn};
-ghost use Rattle.row.specs.Refusals.{grayUnfit, linesOdd, orderUnfit, cursorUnfit, rowRefusal};
+ghost use Rattle.row.specs.Refusals.{greyMode, oddLines, layerOrder, cursorShape, rowRefusal};
 
-pub fn dots_per_column(gray: u8, fx: Code) -> u16
-    requires { ⌜ gray < 3 ⌝ }
-    ensures { λ d. ⌜ d ≡ dotsPerColumn gray fx ⌝ }
+pub fn dots_per_column(grey: u8, fx: Code) -> u16
+    requires { ⌜ grey < 3 ⌝ }
+    ensures { λ d. ⌜ d ≡ dotsPerColumn grey fx ⌝ }
 {
-    if gray == 0 {
+    if grey == 0 {
         return fx.count().0;
     }
-    if gray == 1 {
+    if grey == 1 {
         return 4;
     }
     2
@@ -38,10 +38,10 @@ pub fn columns_width(cr: Code, per: u16) -> usize
     columns.0 as usize * per as usize
 }
 
-fn gray_unfit(gray: u8, o: Overlay, fx: Code) -> bool
-    ensures { λ b. ⌜ b ≡ grayUnfit gray o fx ⌝ }
+fn grey_mode(grey: u8, o: Overlay, fx: Code) -> bool
+    ensures { λ b. ⌜ b ≡ greyMode grey o fx ⌝ }
 {
-    if gray == 0 {
+    if grey == 0 {
         return false;
     }
     if o.dm2 {
@@ -52,8 +52,8 @@ fn gray_unfit(gray: u8, o: Overlay, fx: Code) -> bool
     true
 }
 
-fn lines_odd(ws: bool, lf: Code) -> bool
-    ensures { λ b. ⌜ b ≡ linesOdd ws lf ⌝ }
+fn odd_lines(ws: bool, lf: Code) -> bool
+    ensures { λ b. ⌜ b ≡ oddLines ws lf ⌝ }
 {
     if ws {
         return lf.count().0 % 2 == 1;
@@ -61,8 +61,8 @@ fn lines_odd(ws: bool, lf: Code) -> bool
     false
 }
 
-fn order_unfit(ws: bool, o: Overlay, b: Blocks) -> bool
-    ensures { λ r. ⌜ r ≡ orderUnfit ws o b ⌝ }
+fn layer_order(ws: bool, o: Overlay, b: Blocks) -> bool
+    ensures { λ r. ⌜ r ≡ layerOrder ws o b ⌝ }
 {
     if ws {
         return false;
@@ -79,8 +79,8 @@ fn order_unfit(ws: bool, o: Overlay, b: Blocks) -> bool
     false
 }
 
-fn cursor_unfit(fc: u8, f: CursorForm, fx: Code) -> bool
-    ensures { λ b. ⌜ b ≡ cursorUnfit fc f fx ⌝ }
+fn cursor_shape(fc: u8, f: CursorForm, fx: Code) -> bool
+    ensures { λ b. ⌜ b ≡ cursorShape fc f fx ⌝ }
 {
     if fc == 0 {
         return false;
@@ -96,8 +96,8 @@ impl RowChecks {
     fn answer(self) -> Answer
         ensures { λ a. ⌜ reply a .refusal ≡ firstRefusal self ⌝ }
     {
-        if self.gray_mode {
-            return Answer::Refused(Refusal::GrayMode);
+        if self.grey_mode {
+            return Answer::Refused(Refusal::GreyMode);
         }
         if self.character_width {
             return Answer::Refused(Refusal::CharacterWidth);
@@ -129,20 +129,20 @@ impl RowChecks {
 
 // The answer to row n in a buffer of a length, with memory and font of their sizes. An accepted row number fits 16 bits.
 pub fn row_answer(r: Registers, n: u32, buffer: usize) -> Answer
-    requires { ⌜ r .gray < 3 ⌝ }
+    requires { ⌜ r .grey < 3 ⌝ }
     ensures { λ a. ⌜ reply a .refusal ≡ rowRefusal r memorySize fontSize n buffer ⌝ }
     ensures { λ a. ⌜ (reply a .refusal ≡ 0 → n < 65536) ⌝ }
 {
     let s = r.system;
-    let width = columns_width(s.cr, dots_per_column(r.gray, s.fx));
+    let width = columns_width(s.cr, dots_per_column(r.grey, s.fx));
     let checks = RowChecks {
-        gray_mode: gray_unfit(r.gray, r.overlay, s.fx),
+        grey_mode: grey_mode(r.grey, r.overlay, s.fx),
         character_width: 8 < s.fx.count().0,
         row_width: 640 < width,
-        odd_lines: lines_odd(s.ws, s.lf),
+        odd_lines: odd_lines(s.ws, s.lf),
         short_line: (s.tcr.0 as u16) < s.cr.0 as u16 + 4,
-        layer_order: order_unfit(s.ws, r.overlay, r.blocks),
-        cursor_shape: cursor_unfit(r.display.fc, r.form, s.fx),
+        layer_order: layer_order(s.ws, r.overlay, r.blocks),
+        cursor_shape: cursor_shape(r.display.fc, r.form, s.fx),
         row_number: s.lf.count().0 as u32 <= n,
         buffer_size: buffer != width,
     };

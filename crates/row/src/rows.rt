@@ -43,11 +43,11 @@ fn paint(r: Registers, memory: &[u8], font: &[u8], frame: u32, n: u16, out: &mut
         m2: system.m2,
         cgram: r.cgram,
         mx: r.overlay.mx,
-        gray: r.gray,
+        grey: r.grey,
         cursor: r.cursor.address,
     };
     let count = system.cr.count();
-    let per = dots_per_column(r.gray, system.fx) as usize;
+    let per = dots_per_column(r.grey, system.fx) as usize;
     let layer = layer1(r, n);
     let one = layer_source(r, layer, frame);
     let cursor = cursor_row(r, layer, frame);
@@ -90,7 +90,7 @@ pub fn frame_size(registers: Registers) -> FrameSize
     let r = registers.in_layout();
     let s = r.system;
     FrameSize {
-        width: columns_width(s.cr, dots_per_column(r.gray, s.fx)),
+        width: columns_width(s.cr, dots_per_column(r.grey, s.fx)),
         rows: s.lf.count(),
     }
 }

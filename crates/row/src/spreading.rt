@@ -51,11 +51,11 @@ fn spread_nibbles(b: u8, out: &mut [u8])
 }
 
 // The dots of a byte at a grey code.
-pub fn spread(gray: u8, b: u8, out: &mut [u8])
-    requires { ⌜ Room gray (length (now out)) ⌝ }
-    ensures { λ _. ⌜ now (out .exit) ≡ table (length (now (out .entry))) (dotOf (2 ^ gray) b) ⌝ }
+pub fn spread(grey: u8, b: u8, out: &mut [u8])
+    requires { ⌜ Room grey (length (now out)) ⌝ }
+    ensures { λ _. ⌜ now (out .exit) ≡ table (length (now (out .entry))) (dotOf (2 ^ grey) b) ⌝ }
 {
-    if gray == 0 {
+    if grey == 0 {
         if out.len() == 8 {
             spread_eight(b, out);
             return;
@@ -63,7 +63,7 @@ pub fn spread(gray: u8, b: u8, out: &mut [u8])
         spread_bits(b, out);
         return;
     }
-    if gray == 1 {
+    if grey == 1 {
         spread_pairs(b, out);
         return;
     }

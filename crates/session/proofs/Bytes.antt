@@ -7,18 +7,19 @@ use Rattle.registers.specs.declared.Command.{Command}
 use Rattle.registers.specs.declared.Command.the-variants.{SystemSet}
 use Rattle.registers.specs.declared.System.{System}
 use Rattle.registers.specs.declared.Registers.{Registers}
-use Rattle.registers.specs.Choice.{_=?_}
+use Rattle.choice.specs.Choice.{_=?_}
+use Rattle.choice.proofs.Cases.{choose}
 use Rattle.registers.specs.Commands.{_is_}
 use Rattle.registers.specs.Parameters.{begin, store, storeSystem}
 use Rattle.model.specs.Bus.{commandWrite, dataWrite, dataRead, writeMemory, writeParameter, readMemory, readCursor, served}
 use Rattle.model.specs.Calls.{BusCall, command, write, read, call, after}
 use Rattle.model.specs.Machine.{Machine, Outcome}
+use Rattle.model.specs.Demand.{OnBus}
 use Rattle.model.specs.Refresh.{All, Byte}
 use Rattle.busfile.specs.declared.Kind.{Kind}
 use Rattle.busfile.specs.declared.Kind.the-variants.{Bus, Reads, Frame}
 use Rattle.busfile.specs.Records.{wordOf, partOf}
 use Rattle.session.specs.Records.{recordCalls}
-use Rattle.session.proofs.Short.{choose}
 
 -- what all of a list have, all of its front and all of its rest have
 cut : {A : Type 0} (P : A → Type 0) (n : ℕ) (l : List A) → All P l → All P (take n l) × All P (drop n l)
@@ -30,23 +31,17 @@ cut P (suc n) (x ∷ l) h = let rest = cut P n l (h .1) in ((h .0, rest .0), res
 pub part-bytes : (file : List ℕ) (start end : ℕ) → All Byte file → All Byte (partOf file start end)
 part-bytes file start end h = cut Byte (end - start) (drop start file) (cut Byte start file h .1) .0
 
--- a call that hands over a byte, if anything
-abbrev ByteCall : BusCall → Type 0
-ByteCall (command b) = Byte b
-ByteCall (write b) = Byte b
-ByteCall read = Unit {0}
-
 -- data writes of bytes, and any number of reads
-writes-bytes : (bs : List ℕ) → All Byte bs → All ByteCall (map write bs)
+writes-bytes : (bs : List ℕ) → All Byte bs → All OnBus (map write bs)
 writes-bytes [] h = tt
 writes-bytes (b ∷ bs) h = (h .0, writes-bytes bs (h .1))
 
-reads-bytes : (n : ℕ) → All ByteCall (replicate n read)
+reads-bytes : (n : ℕ) → All OnBus (replicate n read)
 reads-bytes zero = tt
 reads-bytes (suc n) = (tt, reads-bytes n)
 
 -- the calls of a record hand over the bytes of its payload
-record-bytes : (kind : Kind) (payload : List ℕ) → All Byte payload → All ByteCall (recordCalls kind payload)
+record-bytes : (kind : Kind) (payload : List ℕ) → All Byte payload → All OnBus (recordCalls kind payload)
 record-bytes Bus [] h = tt
 record-bytes Bus (b ∷ bs) h = (h .0, writes-bytes bs (h .1))
 record-bytes Reads payload h = reads-bytes (wordOf payload)
@@ -68,7 +63,7 @@ store-keeps c place b r h l =
     (λ e. l)
 
 -- no call but a parameter's touches it
-call-keeps : (m : Machine) (c : BusCall) → ByteCall c → LfByte m → Keeps (call m c)
+call-keeps : (m : Machine) (c : BusCall) → OnBus c → LfByte m → Keeps (call m c)
 unfolding commandWrite dataWrite dataRead writeMemory writeParameter readMemory readCursor begin
 call-keeps m (command b) h l = search (choose Keeps, l) depth 12
 call-keeps m (write b) h l =
@@ -77,7 +72,7 @@ call-keeps m (write b) h l =
     search (choose Keeps, l, stored) depth 12
 call-keeps m read h l = search (choose Keeps, l) depth 12
 
-calls-keep : (m : Machine) (cs : List BusCall) → All ByteCall cs → LfByte m → LfByte (after m cs)
+calls-keep : (m : Machine) (cs : List BusCall) → All OnBus cs → LfByte m → LfByte (after m cs)
 calls-keep m [] h l = l
 calls-keep m (c ∷ cs) h l = calls-keep (call m c .machine) cs (h .1) (call-keeps m c (h .0) l)
 

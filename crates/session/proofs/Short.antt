@@ -9,7 +9,8 @@ use lib.ListN.{length, getD, drop, replicate, length-map, length-replicate}
 use lib.Seq.{getD-drop}
 use borrow.Author.Tests.{eqb-true}
 use Rattle.registers.specs.declared.Registers.{Registers}
-use Rattle.registers.specs.Choice.{if_then_else_, _=?_}
+use Rattle.choice.specs.Choice.{_=?_}
+use Rattle.choice.proofs.Cases.{choose}
 use Rattle.registers.specs.Refusals.{Reply}
 use Rattle.registers.specs.Layout.{inLayout}
 use Rattle.row.specs.Dots.{dots}
@@ -27,11 +28,6 @@ use Rattle.lines.specs.Lines.{ascii, refusedLine, readLine, frameLine}
 use Rattle.lines.proofs.Lengths.{Small, line-length, row-length}
 use Rattle.session.specs.Records.{busCalls, writeReplyLines, readReplyLines, callLines, callsLines, rowLines, framed, frameLines}
 use Rattle.session.specs.Stream.{Short, LinesShort}
-
--- what both cases have, a choice has
-pub choose : {A : Type 0} (P : A → Type 0) (b : Bool) (x y : A) → (b ≡ true → P x) → (b ≡ false → P y) → P (if b then x else y)
-choose P true x y p q = p refl
-choose P false x y p q = q refl
 
 -- Refusals are small numbers: those of a call are 1 to 7, those of a row 1 to 17
 

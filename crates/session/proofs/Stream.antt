@@ -7,7 +7,7 @@ use native.Mathlib.Omega.{arith}
 use lib.ListN.{length, take, drop, length-append, length-drop}
 use lib.Seq.{length-take-le}
 use borrow.Author.Tests.{ltb-false}
-use Rattle.registers.specs.Choice.{if_then_else_, _<?_}
+use Rattle.choice.specs.Choice.{if_then_else_, _<?_}
 use Rattle.lines.specs.Lines.{longestLine}
 use Rattle.lines.proofs.Buffers.{stands, front}
 use Rattle.session.specs.Output.{Buffer, usedBefore, printed}

@@ -5,7 +5,7 @@ use mathlib.Core.Bool.{Bool, false}
 use mathlib.Core.List.{List, [], _∷_}
 use mathlib.Core.Path.{_≡_}
 use lib.ListN.{length}
-use Rattle.registers.specs.Choice.{if_then_else_, _<?_}
+use Rattle.choice.specs.Choice.{if_then_else_, _<?_}
 use Rattle.lines.specs.Lines.{appended, usedAfter, longestLine}
 use Rattle.session.specs.declared.Output.{Output}
 

@@ -2,7 +2,7 @@
 use Prim.Native.Nat.{ℕ, zero, suc, _+_}
 use mathlib.Core.List.{List, [], _∷_, _++_}
 use lib.ListN.{replicate}
-use Rattle.registers.specs.Choice.{if_then_else_, _=?_}
+use Rattle.choice.specs.Choice.{if_then_else_, _=?_}
 use Rattle.registers.specs.Refusals.{Reply}
 use Rattle.row.specs.Rows.{RowAnswer, rowAnswer, frameSize}
 use Rattle.model.specs.Machine.{Machine, machine}

@@ -4,7 +4,7 @@ use mathlib.Core.Path.{_≡_, refl}
 use borrow.Author.Tests.{le-leb, lt-leb, leb-true}
 use native.Mathlib.Omega.{arith}
 use Rattle.registers.specs.declared.Command.the-variants.{None, Disp, CsrDir}
-use Rattle.registers.specs.Choice.{if_then_else_, _≤?_}
+use Rattle.choice.specs.Choice.{if_then_else_, _≤?_}
 use Rattle.registers.specs.Commands.{commandOf}
 use Rattle.registers.proofs.Command.of.Statement.{statement}
 use Rattle.registers.proofs.Command.of.Tie as tie

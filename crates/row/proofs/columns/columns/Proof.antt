@@ -12,12 +12,12 @@ use Rattle.row.proofs.columns.columns.Statement.{statement}
 use Rattle.row.proofs.columns.columns.Tie as tie
 
 abbrev Inv-loop : tie.InvT-loop
-Inv-loop k one two three cursor memory font count per out₀ gray c₀ at₀ out c at =
+Inv-loop k one two three cursor memory font count per out₀ grey c₀ at₀ out c at =
     (c ≤ count) × (at ≡ c * per) × (length out ≡ length out₀)
     × ((x : ℕ) → x < at → getD out x 0 ≡ columnsDot k one two three cursor memory font per x)
 
 abbrev μ-loop : tie.MeasureT-loop
-μ-loop k one two three cursor memory font count per out₀ gray c₀ at₀ out c at = count - c
+μ-loop k one two three cursor memory font count per out₀ grey c₀ at₀ out c at = count - c
 
 -- a column's dots are within the row
 room : (c : tie.After-column Inv-loop μ-loop) → c .before .before .loop .at + c .before .before .before .before .before .before .args .per ≤ length (c .before .before .loop .out)
@@ -46,7 +46,7 @@ part-spread-end c = room c
 
 spread-requires : tie.Need-spread-requires Inv-loop μ-loop
 spread-requires c κs =
-    subst (Room (c .before .before .before .before .before .before .before .args .k .gray)) (sym (part-length (c .before .before .before .loop .out) _ _ (room (c .before))))
+    subst (Room (c .before .before .before .before .before .before .before .args .k .grey)) (sym (part-length (c .before .before .before .loop .out) _ _ (room (c .before))))
     (c .before .before .before .before .before .before .before .pre .2)
 
 add-c : tie.Need-add-c Inv-loop μ-loop
@@ -61,14 +61,14 @@ loop-again c =
     let l = c .before .before .before .before .before .before .loop in
     let a = c .before .before .before .before .before .before .before .before .before .before .args in
     let byte : ℕ → ℕ = columnByte (a .k) (a .one) (a .two) (a .three) (a .cursor) (a .memory .now) (a .font .now) in
-    let dot : ℕ → ℕ → ℕ = λ x j. dotOf (2 ^ a .k .gray) (byte x) j in
+    let dot : ℕ → ℕ → ℕ = λ x j. dotOf (2 ^ a .k .grey) (byte x) j in
     let r = room (c .before .before .before .before) in (
       omega arith,
       ap (λ (x : ℕ). x + a .per) (l .inv .1) ∙ column-next (l .c) (a .per),
       c .before .out .given .1 ∙ l .inv .2,
       table-part (columnsDot (a .k) (a .one) (a .two) (a .three) (a .cursor) (a .memory .now) (a .font .now) (a .per)) _ (l .out) _ _ (l .at) (a .per) _ r
           (part-length (l .out) (l .at) (a .per) r) (c .before .before .spread .ensures)
-          (λ j h. ap (λ (b : ℕ). dotOf (2 ^ a .k .gray) b j) (c .before .before .before .before .column .ensures) ∙ at-column dot (l .c) h
+          (λ j h. ap (λ (b : ℕ). dotOf (2 ^ a .k .grey) b j) (c .before .before .before .before .column .ensures) ∙ at-column dot (l .c) h
           ∙ ap (λ (x : ℕ). dot ((x + j) / a .per) ((x + j) % a .per)) (sym (l .inv .1)))
           (l .inv .3),
     )

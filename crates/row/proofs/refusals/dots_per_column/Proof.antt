@@ -14,4 +14,4 @@ dots-per-column-spec =
     (λ c κs. search needs)
     (λ c. rw (c .count .ensures, eq-eqb _ _ (c .before .if1 .taken)))
     (λ c. rw (c .if2 .taken))
-    (λ c. let e : c .before .before .args .gray ≡ 2 = omega (arith, c .before .before .pre, c .if2 .left, c .before .if1 .left) in rw e))
+    (λ c. let e : c .before .before .args .grey ≡ 2 = omega (arith, c .before .before .pre, c .if2 .left, c .before .if1 .left) in rw e))

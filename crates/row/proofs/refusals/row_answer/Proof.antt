@@ -21,7 +21,7 @@ refusal c =
     let g = x .before in
     let w = g .before in
     c .answer .ensures
-    ∙ rw (w .columns-width .ensures, w .before .dots-per-column .ensures, g .gray-unfit .ensures, x .count .ensures, l .lines-odd .ensures, o .order-unfit .ensures, u .cursor-unfit .ensures, n .count2 .ensures)
+    ∙ rw (w .columns-width .ensures, w .before .dots-per-column .ensures, g .grey-mode .ensures, x .count .ensures, l .odd-lines .ensures, o .layer-order .ensures, u .cursor-shape .ensures, n .count2 .ensures)
 
 pub row-answer-spec : {M : Type 1} → statement M
 row-answer-spec =

@@ -1,5 +1,5 @@
 use Rattle.row.specs.Dots.{width}
-use Rattle.row.proofs.Accepting.{gray-code}
+use Rattle.row.proofs.Accepting.{grey-code}
 use borrow.Author.Needs.{needs}
 use Rattle.row.proofs.rows.frame_size.Statement.{statement}
 use Rattle.row.proofs.rows.frame_size.Tie as tie
@@ -10,7 +10,7 @@ frame-size-spec =
     tie.close
     (tie.spec
     (λ c κs. search needs)
-    (λ c κs. rw (c .before .in-layout .ensures) (gray-code (c .before .before .args .registers)))
+    (λ c κs. rw (c .before .in-layout .ensures) (grey-code (c .before .before .args .registers)))
     (λ c κs. search needs)
     (λ c κs. search needs)
     (λ c. rw (c .count .ensures, c .before .columns-width .ensures, c .before .before .dots-per-column .ensures, c .before .before .before .before .in-layout .ensures)))

@@ -37,7 +37,7 @@ same-length-4 : tie.Need-same-length-4
 same-length-4 c = c .before .before .spread-nibbles .kept .1 .0
 
 returns-4 : tie.Need-returns-4
-returns-4 c = let two : c .before .before .before .before .before .before .before .args .gray ≡ 2 = omega (arith, c .before .before .before .before .before .before .before .pre .code) in
+returns-4 c = let two : c .before .before .before .before .before .before .before .args .grey ≡ 2 = omega (arith, c .before .before .before .before .before .before .before .pre .code) in
     rw (two, c .before .before .before .before .before .before .before .pre .four two) (c .before .before .spread-nibbles .ensures)
 
 pub spread-spec : {M : Type 1} → statement M

@@ -1,13 +1,13 @@
 use borrow.Author.Tests.{le-ltb, lt-ltb}
 use mathlib.Core.Path.{sym, _∙_}
-use Rattle.row.specs.Refusals.{orderUnfit}
+use Rattle.row.specs.Refusals.{layerOrder}
 use borrow.Author.Needs.{needs}
-use Rattle.row.proofs.refusals.order_unfit.Statement.{statement}
-use Rattle.row.proofs.refusals.order_unfit.Tie as tie
+use Rattle.row.proofs.refusals.layer_order.Statement.{statement}
+use Rattle.row.proofs.refusals.layer_order.Tie as tie
 
-pub order-unfit-spec : {M : Type 1} → statement M
-unfolding orderUnfit
-order-unfit-spec =
+pub layer-order-spec : {M : Type 1} → statement M
+unfolding layerOrder
+layer-order-spec =
     tie.close
     (tie.spec
     (λ c. rw (c .if1 .taken))

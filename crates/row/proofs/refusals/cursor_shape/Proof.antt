@@ -1,12 +1,12 @@
 use borrow.Author.Tests.{eq-eqb, ne-eqb}
-use Rattle.row.specs.Refusals.{cursorUnfit}
+use Rattle.row.specs.Refusals.{cursorShape}
 use borrow.Author.Needs.{needs}
-use Rattle.row.proofs.refusals.cursor_unfit.Statement.{statement}
-use Rattle.row.proofs.refusals.cursor_unfit.Tie as tie
+use Rattle.row.proofs.refusals.cursor_shape.Statement.{statement}
+use Rattle.row.proofs.refusals.cursor_shape.Tie as tie
 
-pub cursor-unfit-spec : {M : Type 1} → statement M
-unfolding cursorUnfit
-cursor-unfit-spec =
+pub cursor-shape-spec : {M : Type 1} → statement M
+unfolding cursorShape
+cursor-shape-spec =
     tie.close
     (tie.spec
     (λ c. simp (eq-eqb _ _ (c .if1 .taken)))

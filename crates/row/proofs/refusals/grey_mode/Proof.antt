@@ -1,12 +1,12 @@
 use borrow.Author.Tests.{eq-eqb, ne-eqb}
-use Rattle.row.specs.Refusals.{grayUnfit}
+use Rattle.row.specs.Refusals.{greyMode}
 use borrow.Author.Needs.{needs}
-use Rattle.row.proofs.refusals.gray_unfit.Statement.{statement}
-use Rattle.row.proofs.refusals.gray_unfit.Tie as tie
+use Rattle.row.proofs.refusals.grey_mode.Statement.{statement}
+use Rattle.row.proofs.refusals.grey_mode.Tie as tie
 
-pub gray-unfit-spec : {M : Type 1} → statement M
-unfolding grayUnfit
-gray-unfit-spec =
+pub grey-mode-spec : {M : Type 1} → statement M
+unfolding greyMode
+grey-mode-spec =
     tie.close
     (tie.spec
     (λ c. simp (eq-eqb _ _ (c .if1 .taken)))

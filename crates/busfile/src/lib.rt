@@ -3,10 +3,10 @@ mod reading;
 mod records;
 
 pub use reading::found_at;
+pub use reading::payload_at;
 pub use records::compact;
 pub use records::double_word;
 pub use records::part;
-pub use records::record_at;
 pub use records::suffices;
 pub use records::word;
 

@@ -1,10 +1,12 @@
--- 01, 'Bus file and its program': the lines that the program prints, as bytes, and how they stand in a buffer.
+-- Reference, 'The program'; 01, 'Bus file and its program': the lines that the program prints, as bytes, and how they stand in a buffer.
 use Prim.Native.Char.{code}
 use Prim.Native.Nat.{ℕ, zero, suc, _+_, _/_, _%_}
 use Prim.Native.String.{String, [] as none, _∷_ as _then_}
 use mathlib.Core.List.{List, [], _∷_, _++_, map}
 use lib.ListN.{length, getD, take, drop}
 use Rattle.choice.specs.Choice.{if_then_else_, _<?_, _≤?_}
+use Rattle.lines.specs.declared.Line.{Line}
+use Rattle.lines.specs.declared.Line.the-variants.{Refused, Read, Frame, Bad, End}
 
 -- the bytes of a text
 abbrev pub ascii : String → List ℕ
@@ -25,37 +27,40 @@ decimalBelow zero n = []
 decimalBelow (suc k) n = (if n <? 10 then [] else decimalBelow k (n / 10)) ++ (digit (n % 10) ∷ [])
 
 -- a blank and a number: decimal, without leading zeros
-unfoldable pub number : ℕ → List ℕ
-number n = ascii " " ++ decimalBelow (n + 1) n
-
--- a text with numbers behind it, as the code puts lines together; no line's definition cites it
-abbrev pub withNumbers : List ℕ → List ℕ → List ℕ
-withNumbers text [] = text
-withNumbers text (n ∷ ns) = withNumbers (text ++ number n) ns
+unfoldable pub decimal : ℕ → List ℕ
+decimal n = ascii " " ++ decimalBelow (n + 1) n
 
 -- `refused RECORD BYTE NUMBER`
 abbrev pub refusedLine : ℕ → ℕ → ℕ → List ℕ
-refusedLine r byte n = ascii "refused" ++ number r ++ number byte ++ number n ++ ascii "\n"
+refusedLine r byte n = ascii "refused" ++ decimal r ++ decimal byte ++ decimal n ++ ascii "\n"
 
 -- `read RECORD INDEX VALUE`, the value in `two upper-case hex digits`
 abbrev pub readLine : ℕ → ℕ → ℕ → List ℕ
-readLine r index v = ascii "read" ++ number r ++ number index ++ (ascii " " ++ (hexDigit (v / 16) ∷ hexDigit v ∷ ascii "\n"))
+readLine r index v = ascii "read" ++ decimal r ++ decimal index ++ (ascii " " ++ (hexDigit (v / 16) ∷ hexDigit v ∷ ascii "\n"))
 
 -- `frame RECORD FRAME WIDTH ROWS`
 abbrev pub frameLine : ℕ → ℕ → ℕ → ℕ → List ℕ
-frameLine r frame width rows = ascii "frame" ++ number r ++ number frame ++ number width ++ number rows ++ ascii "\n"
+frameLine r frame width rows = ascii "frame" ++ decimal r ++ decimal frame ++ decimal width ++ decimal rows ++ ascii "\n"
+
+-- `bad RECORD`
+abbrev pub badLine : ℕ → List ℕ
+badLine r = ascii "bad" ++ decimal r ++ ascii "\n"
+
+-- `end COUNT`
+abbrev pub endLine : ℕ → List ℕ
+endLine count = ascii "end" ++ decimal count ++ ascii "\n"
+
+-- the text of a line
+abbrev pub lineText : Line → List ℕ
+lineText (Refused r byte n) = refusedLine r byte n
+lineText (Read r index v) = readLine r index v
+lineText (Frame r frame width rows) = frameLine r frame width rows
+lineText (Bad r) = badLine r
+lineText (End count) = endLine count
 
 -- `one line a row, one upper-case hex digit a dot`
 unfoldable pub rowLine : List ℕ → List ℕ
 rowLine dots = map hexDigit dots ++ ascii "\n"
-
--- `bad RECORD`
-abbrev pub badLine : ℕ → List ℕ
-badLine r = ascii "bad" ++ number r ++ ascii "\n"
-
--- `end COUNT`
-abbrev pub endLine : ℕ → List ℕ
-endLine count = ascii "end" ++ number count ++ ascii "\n"
 
 -- a buffer of which the first bytes are used, with a text behind them where it fits
 abbrev pub appended : List ℕ → ℕ → List ℕ → List ℕ

@@ -3,7 +3,11 @@ ghost use Prim.Native.Nat.{_+_, _*_, _≤_};
 ghost use mathlib.Core.List.{_++_};
 ghost use mathlib.Core.Path.{_≡_};
 ghost use lib.ListN.{length, take};
-ghost use Rattle.lines.specs.Lines.{hexDigit, number, withNumbers, appended, usedAfter};
+ghost use Rattle.lines.specs.Lines.{hexDigit, decimal, appended, usedAfter};
+ghost use Rattle.lines.specs.Pieces.{withNumbers};
+
+// A name, four numbers, each a blank and at most 20 digits, and an end.
+const LONGEST: usize = 7 + 4 * 21 + 4;
 
 pub fn hex_digit(n: u8) -> u8
     ensures { λ r. ⌜ r ≡ hexDigit n ⌝ }
@@ -32,20 +36,20 @@ fn append(buffer: &mut [u8], used: usize, text: &[u8]) -> usize
     end
 }
 
-// A word behind the first bytes of a line that has room for it.
-fn put(line: &mut [u8], used: usize, word: &[u8]) -> usize
-    requires { ⌜ used + length (now word) ≤ length (now line) ⌝ }
-    ensures { λ r. ⌜ r ≡ used + length (now (word .entry)) ⌝ }
-    ensures { λ r. ⌜ take r (now (line .exit)) ≡ take used (now (line .entry)) ++ now (word .entry) ⌝ }
+// A text behind the first bytes of a line that has room for it.
+fn put(line: &mut [u8], used: usize, text: &[u8]) -> usize
+    requires { ⌜ used + length (now text) ≤ length (now line) ⌝ }
+    ensures { λ r. ⌜ r ≡ used + length (now (text .entry)) ⌝ }
+    ensures { λ r. ⌜ take r (now (line .exit)) ≡ take used (now (line .entry)) ++ now (text .entry) ⌝ }
 {
-    append(line, used, word)
+    append(line, used, text)
 }
 
 // A blank and a number, of at most 20 digits.
 fn put_number(line: &mut [u8], used: usize, n: u64) -> usize
     requires { ⌜ used + 21 ≤ length (now line) ⌝ }
     ensures { λ r. ⌜ r ≤ used + 21 ⌝ }
-    ensures { λ r. ⌜ take r (now (line .exit)) ≡ take used (now (line .entry)) ++ number n ⌝ }
+    ensures { λ r. ⌜ take r (now (line .exit)) ≡ take used (now (line .entry)) ++ decimal n ⌝ }
 {
     let mut digits = [0u8; 20];
     let k = io::decimal(n, &mut digits);
@@ -74,7 +78,7 @@ pub fn put_line(buffer: &mut [u8], used: usize, name: &[u8], numbers: &[u64], en
     ensures { λ r. ⌜ r ≡ usedAfter (now (buffer .entry)) used (withNumbers (now (name .entry)) (now (numbers .entry)) ++ now (end .entry)) ⌝ }
     ensures { λ _. ⌜ now (buffer .exit) ≡ appended (now (buffer .entry)) used (withNumbers (now (name .entry)) (now (numbers .entry)) ++ now (end .entry)) ⌝ }
 {
-    let mut line = [0u8; 96];
+    let mut line = [0u8; LONGEST];
     let k = put(&mut line, 0, name);
     let k = put_numbers(&mut line, k, numbers);
     let k = put(&mut line, k, end);

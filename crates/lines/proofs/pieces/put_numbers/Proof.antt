@@ -7,13 +7,14 @@ use native.Mathlib.Omega.{arith}
 use lib.ListN.{length, getD, take}
 use lib.Seq.{take-suc, take-all}
 use borrow.Author.Needs.{needs}
-use Rattle.lines.specs.Lines.{number, withNumbers}
+use Rattle.lines.specs.Lines.{decimal}
+use Rattle.lines.specs.Pieces.{withNumbers}
 use Rattle.lines.proofs.pieces.put_numbers.Statement.{statement}
 use Rattle.lines.proofs.pieces.put_numbers.Tie as tie
 
-one-more : (text ns : List ℕ) (n : ℕ) → withNumbers text (ns ++ (n ∷ [])) ≡ withNumbers text ns ++ number n
+one-more : (text ns : List ℕ) (n : ℕ) → withNumbers text (ns ++ (n ∷ [])) ≡ withNumbers text ns ++ decimal n
 one-more text [] n = refl
-one-more text (x ∷ ns) n = one-more (text ++ number x) ns n
+one-more text (x ∷ ns) n = one-more (text ++ decimal x) ns n
 
 abbrev Inv-loop : tie.InvT-loop
 Inv-loop line₀ used numbers end₀ i₀ line end i =
@@ -49,7 +50,7 @@ loop-again c =
       omega arith,
       p .put-number .kept .0 ∙ l .loop .inv .1,
       omega arith,
-      p .put-number .ensures .1 ∙ ap (λ t. t ++ number (getD ns (l .loop .i) 0)) (l .loop .inv .3)
+      p .put-number .ensures .1 ∙ ap (λ t. t ++ decimal (getD ns (l .loop .i) 0)) (l .loop .inv .3)
           ∙ rw (add-one, take-suc ns (l .loop .i) 0 (omega arith)) (sym (one-more (take (a .used) (a .line .now)) (take (l .loop .i) ns) _)),
     )
 

@@ -10,8 +10,8 @@ use lib.Seq.{take-length, paste, paste-zero, paste-suc}
 use borrow.Author.Needs.{needs}
 use Rattle.lines.specs.Lines.{hexDigit, rowLine}
 use Rattle.lines.proofs.Buffers.{left-out, stands}
-use Rattle.lines.proofs.row.Statement.{statement}
-use Rattle.lines.proofs.row.Tie as tie
+use Rattle.lines.proofs.append_row.Statement.{statement}
+use Rattle.lines.proofs.append_row.Tie as tie
 
 line-length : (dots : List ℕ) → length (rowLine dots) ≡ length dots + 1
 unfolding rowLine
@@ -120,8 +120,8 @@ returns-3 c =
           ∙ s .1),
     )
 
-pub row-spec : {M : Type 1} → statement M
-row-spec =
+pub append-row-spec : {M : Type 1} → statement M
+append-row-spec =
     tie.close
     (tie.spec
     Inv-loop

@@ -2,7 +2,7 @@ pub mod Buffers
 pub mod Bytes
 pub mod Calls
 mod Example
-pub mod Frames
+pub mod FrameLines
 pub mod Program
 pub mod Short
 pub mod Parts

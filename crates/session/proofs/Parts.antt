@@ -1,8 +1,10 @@
 -- Steps in a part of a file.
 use Prim.Native.Nat.{ℕ, _+_}
+use mathlib.Core.Bool.{Bool, true, false}
 use mathlib.Core.List.{List, _++_}
 use mathlib.Core.Path.{_≡_, refl, ap, _∙_}
 use lib.ListN.{length}
+use Rattle.choice.specs.Choice.{if_then_else_}
 use Rattle.busfile.specs.declared.Found.{Found}
 use Rattle.busfile.specs.declared.Found.the-variants.{Record, Bad, End}
 use Rattle.busfile.specs.Records.{recordAt}
@@ -21,7 +23,18 @@ found-further font before part after at good s same Bad e = refl
 found-further font before part after at good s same (Record r) e = rw (same .payload r e)
 
 pub steps-in-parts : StepsInParts
-steps-in-parts font before part after at good s h =
-    let same = parts-suffice before part after at h in
-    found-further font before part after at good s same (recordAt part at) refl
-    ∙ ap (λ (f : Found). afterFound font (before ++ (part ++ after)) (length before + at) good f s) (same .found)
+steps-in-parts font before part after p h = go (p .more)
+  where
+    file : List ℕ
+    file = before ++ (part ++ after)
+
+    same : SameRecord before part after (p .at)
+    same = parts-suffice before part after (p .at) h
+
+    go : (more : Bool)
+        → furtherOn (length before) (if more then afterFound font part (p .at) (p .good) (recordAt part (p .at)) (p .state) else p)
+        ≡ (if more then afterFound font file (length before + p .at) (p .good) (recordAt file (length before + p .at)) (p .state) else furtherOn (length before) p)
+    go true =
+        found-further font before part after (p .at) (p .good) (p .state) same (recordAt part (p .at)) refl
+        ∙ ap (λ (f : Found). afterFound font file (length before + p .at) (p .good) f (p .state)) (same .found)
+    go false = refl

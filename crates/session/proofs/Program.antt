@@ -13,13 +13,13 @@ use Rattle.busfile.specs.declared.Found.{Found}
 use Rattle.busfile.specs.declared.Found.the-variants.{Record, Bad, End}
 use Rattle.busfile.specs.Records.{recordAt, partOf}
 use Rattle.busfile.proofs.Ends.{record-ends}
-use Rattle.lines.specs.Lines.{ascii, number, endLine, longestLine}
+use Rattle.lines.specs.Lines.{ascii, decimal, endLine, longestLine}
 use Rattle.lines.proofs.Lengths.{line-length}
 use Rattle.session.specs.Output.{Buffer, buffer, printed, printedAll}
 use Rattle.session.specs.Records.{State, afterRecord, recordCalls, recordLines}
-use Rattle.session.specs.File.{Progress, startOf, following, afterFound}
+use Rattle.session.specs.File.{Progress, startOf, following, foundLines, afterFound}
 use Rattle.session.specs.Stream.{held, writtenOut, Short}
-use Rattle.session.specs.Program.{foundLines, linesFrom, programLines, steps, ProgramPrints}
+use Rattle.session.specs.Program.{laterLines, linesFrom, programLines, steps, ProgramPrints}
 use Rattle.session.proofs.Buffers.{printed-both}
 use Rattle.session.proofs.Bytes.{LfByte, part-bytes, record-keeps}
 use Rattle.session.proofs.Short.{both-short, lines-short}
@@ -33,13 +33,13 @@ unfolding following
 following-below good = omega arith
 
 -- `bad RECORD` and `end COUNT`: a name and a number
-number-short : (name : List ℕ) (n : ℕ) → length name ≤ 7 → n < 2 ^ 64 → Short (name ++ number n ++ ascii "\n")
+number-short : (name : List ℕ) (n : ℕ) → length name ≤ 7 → n < 2 ^ 64 → Short (name ++ decimal n ++ ascii "\n")
 number-short name n h below = line-length name (n ∷ []) (ascii "\n") (below, tt) (h, omega arith, omega arith)
 
 module _ (font file : List ℕ) (bytes : All Byte file) where
   -- of what was found, where the lines of the rest are short from any machine and place on
   found-short : (m : Machine) (at good : ℕ) (f : Found) → recordAt file at ≡ f → good < 2 ^ 64 → LfByte m → (rest : Machine → ℕ → List (List ℕ))
-      → ((m : Machine) (at : ℕ) → LfByte m → All Short (rest m at)) → All Short (foundLines font file m good f rest)
+      → ((m : Machine) (at : ℕ) → LfByte m → All Short (rest m at)) → All Short (foundLines (following good) m font file f ++ laterLines file m good f rest)
   found-short m at good End e h l rest short = (number-short (ascii "end") good (omega arith) h, tt)
   found-short m at good Bad e h l rest short =
       (number-short (ascii "bad") (following good) (omega arith) (following-below good), (number-short (ascii "end") good (omega arith) h, tt))
@@ -70,7 +70,7 @@ module _ (font file : List ℕ) where
   stopped : (k : ℕ) (s : State) (at good : ℕ)
       → Ends (steps k font file (record { state = s; at = at; good = good; more = false })) (printed (s .output) (endLine good))
   stopped zero s at good = record { stops = refl; prints = refl }
-  stopped (suc k) s at good = record { stops = refl; prints = refl }
+  stopped (suc k) s at good = stopped k s at good
 
   -- the steps from a place on come to the end, and all lines from there on are printed
   abbrev EndsFrom : ℕ → State → ℕ → ℕ → Type 0
@@ -82,7 +82,8 @@ module _ (font file : List ℕ) where
   found-ends : (k : ℕ) (s : State) (at good : ℕ) (f : Found) → recordAt file at ≡ f → length file - at < suc k
       → ((s : State) (at : ℕ) → length file - at < k → EndsFrom k s at (following good))
       → Ends (steps k font file (afterFound font file at good f s))
-      (printedAll (s .output) (foundLines font file (s .machine) good f (λ m′ at′. linesFrom k font file m′ at′ (following good))))
+      (printedAll (s .output)
+      (foundLines (following good) (s .machine) font file f ++ laterLines file (s .machine) good f (λ m′ at′. linesFrom k font file m′ at′ (following good))))
   found-ends k s at good End e h rest = stopped k s at good
   found-ends k s at good Bad e h rest = stopped k (afterFound font file at good Bad s .state) at good
   found-ends k s at good (Record r) e h rest =

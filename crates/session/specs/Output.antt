@@ -1,8 +1,9 @@
--- Lines in the output's buffer: each is put behind the used bytes, which are written out first where there is less room than for the longest line.
--- One that does not fit is left out; LinesShort (Stream) says that none is.
+-- Reference, 'The program': lines in the output's buffer. Each is put behind the used bytes, which are written out first where there is less room than
+-- for the longest line. One that does not fit is left out; LinesShort (Stream) says that none is.
 use Prim.Native.Nat.{ℕ, _+_}
-use mathlib.Core.Bool.{Bool, false}
+use mathlib.Core.Bool.{Bool, true, false, _||_}
 use mathlib.Core.List.{List, [], _∷_}
+use mathlib.Core.Logic.{_⊎_}
 use mathlib.Core.Path.{_≡_}
 use lib.ListN.{length}
 use Rattle.choice.specs.Choice.{if_then_else_, _<?_}
@@ -31,6 +32,17 @@ abbrev pub printedAll : Buffer → List (List ℕ) → Buffer
 printedAll b [] = b
 printedAll b (line ∷ lines) = printedAll (printed b line) lines
 
--- Whether standard output still takes bytes only the system knows. Once it does not, that stays so
-abbrev pub StaysClosed : Output → Output → Type 0
-StaysClosed before after = before .open ≡ false → after .open ≡ false
+-- whether the buffer is written out while lines are printed
+abbrev pub writesOut : Buffer → List (List ℕ) → Bool
+writesOut b [] = false
+writesOut b (line ∷ lines) = isFull b || writesOut (printed b line) lines
+
+-- Whether standard output takes bytes, before and after. Only the system knows whether a write succeeds, so it may be closed where the buffer was
+-- written out; otherwise it stays as it was, and it never opens again
+abbrev pub OpenAfter : Bool → Bool → Bool → Type 0
+OpenAfter before written after = (after ≡ before) ⊎ ((written ≡ true) × (after ≡ false))
+
+-- lines are printed
+pub record Prints (lines : List (List ℕ)) (o : Output) (bytes : List ℕ) (o′ : Output) (bytes′ : List ℕ) : Type 0 where
+  pub text : buffer bytes′ (o′ .used) ≡ printedAll (buffer bytes (o .used)) lines
+  pub stays : OpenAfter (o .open) (writesOut (buffer bytes (o .used)) lines) (o′ .open)

@@ -1,10 +1,9 @@
--- 01, 'Bus file and its program': all that the program prints of a file.
+-- Reference, 'The program'; 01, 'Bus file and its program': all that the program prints of a file.
 use Prim.Native.Nat.{ℕ, zero, suc, _+_, _≤_}
 use mathlib.Core.Bool.{false}
 use mathlib.Core.List.{List, [], _∷_, _++_, flatten}
 use mathlib.Core.Path.{_≡_}
 use lib.ListN.{length, replicate}
-use Rattle.choice.specs.Choice.{if_then_else_}
 use Rattle.registers.specs.Sizes.{memorySize}
 use Rattle.model.specs.Machine.{Machine}
 use Rattle.model.specs.Calls.{after, reset}
@@ -12,36 +11,33 @@ use Rattle.model.specs.Refresh.{All, Byte}
 use Rattle.busfile.specs.declared.Found.{Found}
 use Rattle.busfile.specs.declared.Found.the-variants.{Record, Bad, End}
 use Rattle.busfile.specs.Records.{recordAt, partOf}
-use Rattle.lines.specs.Lines.{badLine, endLine, longestLine}
+use Rattle.lines.specs.Lines.{endLine, longestLine}
 use Rattle.session.specs.Output.{buffer, printed, printedAll}
-use Rattle.session.specs.Records.{recordCalls, recordLines}
-use Rattle.session.specs.File.{Progress, startOf, following, afterFound}
+use Rattle.session.specs.Records.{recordCalls}
+use Rattle.session.specs.File.{Progress, startOf, following, foundLines, nextStep}
 use Rattle.session.specs.Stream.{held, writtenOut}
 
--- the lines of what was found after a number of good records, and of what follows it: `bad RECORD` stops; last, always, `end COUNT`
-abbrev pub foundLines : List ℕ → List ℕ → Machine → ℕ → Found → (Machine → ℕ → List (List ℕ)) → List (List ℕ)
-foundLines font file m good End rest = endLine good ∷ []
-foundLines font file m good Bad rest = badLine (following good) ∷ endLine good ∷ []
-foundLines font file m good (Record r) rest =
-    let payload = partOf file (r .start) (r .end) in
-    recordLines (following good) m font (r .kind) payload ++ rest (after m (recordCalls (r .kind) payload)) (r .end)
+-- the lines after those of what was found: a bad record and the end stop; last, always, `end COUNT`
+abbrev pub laterLines : List ℕ → Machine → ℕ → Found → (Machine → ℕ → List (List ℕ)) → List (List ℕ)
+laterLines file m good End rest = endLine good ∷ []
+laterLines file m good Bad rest = endLine good ∷ []
+laterLines file m good (Record r) rest = rest (after m (recordCalls (r .kind) (partOf file (r .start) (r .end)))) (r .end)
 
 -- the lines from a place on, where fewer than k records stand
 abbrev pub linesFrom : ℕ → List ℕ → List ℕ → Machine → ℕ → ℕ → List (List ℕ)
 linesFrom zero font file m at good = []
 linesFrom (suc k) font file m at good =
-    foundLines font file m good (recordAt file at) (λ m′ at′. linesFrom k font file m′ at′ (following good))
+    let found = recordAt file at in
+    foundLines (following good) m font file found ++ laterLines file m good found (λ m′ at′. linesFrom k font file m′ at′ (following good))
 
 -- from reset with cleared memory; a file has no more records than bytes
 abbrev pub programLines : List ℕ → List ℕ → List (List ℕ)
 programLines font file = linesFrom (length file + 1) font file (reset (replicate memorySize 0)) 0 0
 
--- at most k steps, until the file stops
+-- k steps
 abbrev pub steps : ℕ → List ℕ → List ℕ → Progress → Progress
 steps zero font file p = p
-steps (suc k) font file p =
-    if p .more then steps k font file (afterFound font file (p .at) (p .good) (recordAt file (p .at)) (p .state))
-    else p
+steps (suc k) font file p = steps k font file (nextStep font file p)
 
 -- The steps of a file come to a stop, and with the last line all lines of the program are printed, each behind the one before it
 pub record Prints (font file out : List ℕ) (p : Progress) : Type 0 where

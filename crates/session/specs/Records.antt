@@ -1,4 +1,4 @@
--- 01, 'Bus file and its program': what each record does, and the lines that it prints.
+-- Reference, 'The program'; 01, 'Bus file and its program': what each record does, and the lines that it prints.
 use Prim.Native.Nat.{ℕ, zero, suc, _+_}
 use mathlib.Core.List.{List, [], _∷_, _++_}
 use lib.ListN.{replicate}
@@ -56,11 +56,14 @@ framed r frame width rows row =
     if row 0 .refusal =? 0 then frameLine r frame width rows ∷ rowLines row 0 rows
     else refusedLine r 0 (row 0 .refusal) ∷ []
 
+-- row n, asked of a machine with a buffer of a length
+abbrev pub rowOf : Machine → List ℕ → ℕ → ℕ → ℕ → RowAnswer
+rowOf m font frame bufferLength n = rowAnswer (m .controller .registers) (m .memory) font frame n bufferLength
+
 abbrev pub frameLines : ℕ → Machine → List ℕ → ℕ → List (List ℕ)
 frameLines r m font frame =
-    let registers = m .controller .registers in
-    let size = frameSize registers in
-    framed r frame (size .width) (size .rows .0) (λ n. rowAnswer registers (m .memory) font frame n (size .width))
+    let size = frameSize (m .controller .registers) in
+    framed r frame (size .width) (size .rows .0) (rowOf m font frame (size .width))
 
 -- A record
 
@@ -81,10 +84,6 @@ state s memory out = record { machine = machine (s .controller) memory; output =
 -- calls carried out, and lines printed
 abbrev pub carriedOut : State → List BusCall → List (List ℕ) → State
 carriedOut s cs lines = record { machine = after (s .machine) cs; output = printedAll (s .output) lines }
-
--- the state after calls that are numbered from k on
-abbrev pub afterCalls : ℕ → ℕ → State → List BusCall → State
-afterCalls r k s cs = carriedOut s cs (callsLines r k (s .machine) cs)
 
 -- the state after a record
 abbrev pub afterRecord : ℕ → List ℕ → Kind → List ℕ → State → State

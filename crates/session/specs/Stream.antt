@@ -1,4 +1,4 @@
--- Nothing that is printed is lost: what was written out of the buffer and what it still holds are all its lines, one behind the other.
+-- Reference, 'The program': nothing that is printed is lost: what was written out of the buffer and what it still holds are all its lines, one behind the other.
 use Prim.Native.Nat.{ℕ, _^_, _<_, _≤_}
 use mathlib.Core.List.{List, [], _∷_, _++_, flatten}
 use mathlib.Core.Path.{_≡_}

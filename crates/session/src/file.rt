@@ -3,20 +3,18 @@ use crate::Output;
 use crate::Session;
 use crate::Step;
 use crate::printing::flush;
-use crate::printing::put_bad;
-use crate::printing::put_end;
+use crate::printing::print_line;
 use crate::run::run_record;
 use busfile::Found;
+use lines::Line;
 use model::Controller;
 ghost use Prim.Native.Nat.{ℕ};
 ghost use mathlib.Core.Bool.{true};
 ghost use mathlib.Core.List.{List};
 ghost use mathlib.Core.Path.{_≡_};
-ghost use Rattle.busfile.specs.Records.{recordAt};
 ghost use Rattle.lines.specs.Lines.{endLine};
-ghost use Rattle.session.specs.Output.{buffer, printed, StaysClosed};
-ghost use Rattle.session.specs.Records.{state};
-ghost use Rattle.session.specs.File.{progress, startOf, following, afterFound};
+ghost use Rattle.session.specs.Output.{buffer, printed, writesOut, OpenAfter};
+ghost use Rattle.session.specs.File.{progress, startOf, following, nextStep, stepLines};
 
 // Before the first record: a controller from reset, and nothing printed.
 pub fn start() -> Step
@@ -44,19 +42,22 @@ fn following(good: u64) -> u64
     std::num::wrapping_add_u64(good, 1)
 }
 
-// Carries out the record at a place. A bad one prints `bad` and stops, and so does the end, silently.
-pub fn next(
-    s: Session,
-    memory: &mut [u8],
-    font: &[u8],
-    out: &mut [u8],
-    file: &[u8],
-    at: usize,
-    good: u64,
-) -> Step
-    ensures { λ r. ⌜ progress r (now (memory .exit)) (now (out .exit)) ≡ afterFound (now (font .entry)) (now (file .entry)) at good (recordAt (now (file .entry)) at) (state s (now (memory .entry)) (now (out .entry))) ⌝ }
-    ensures { λ r. ⌜ StaysClosed (s .output) (r .session .output) ⌝ }
+// Carries out the record at the step's place. A bad one prints `bad` and stops, and so does the end, silently.
+pub fn next(step: Step, memory: &mut [u8], font: &[u8], out: &mut [u8], file: &[u8]) -> Step
+    ensures { λ r. ⌜ progress r (now (memory .exit)) (now (out .exit))
+        ≡ nextStep (now (font .entry)) (now (file .entry)) (progress step (now (memory .entry)) (now (out .entry))) ⌝ }
+    ensures { λ r. ⌜ OpenAfter (step .session .output .open)
+        (writesOut (buffer (now (out .entry)) (step .session .output .used))
+        (stepLines (now (font .entry)) (now (file .entry)) (progress step (now (memory .entry)) (now (out .entry)))))
+        (r .session .output .open) ⌝ }
 {
+    let more = step.more;
+    if !more {
+        return step;
+    }
+    let at = step.at;
+    let good = step.good;
+    let s = step.session;
     let found = busfile::found_at(file, at);
     if let Found::End = found {
         return Step {
@@ -72,14 +73,14 @@ pub fn next(
         return Step {
             session: Session {
                 controller: controller,
-                output: put_bad(s.output, out, number),
+                output: print_line(s.output, out, Line::Bad(number)),
             },
             at: at,
             good: good,
             more: false,
         };
     };
-    let payload = busfile::part(file, r.start, r.end);
+    let payload = busfile::payload_at(file, r.start, r.end);
     let kind = r.kind;
     Step {
         session: run_record(s, memory, font, out, kind, payload, number),
@@ -90,9 +91,11 @@ pub fn next(
 }
 
 // Prints the last line, and writes out what the buffer holds.
-pub fn finish(o: Output, out: &mut [u8], good: u64)
-    ensures { λ _. ⌜ now (out .exit) ≡ printed (buffer (now (out .entry)) (o .used)) (endLine good) .bytes ⌝ }
+pub fn finish(step: Step, out: &mut [u8]) -> Output
+    ensures { λ _. ⌜ now (out .exit) ≡ printed (buffer (now (out .entry)) (step .session .output .used)) (endLine (step .good)) .bytes ⌝ }
+    ensures { λ r. ⌜ r .used ≡ 0 ⌝ }
+    ensures { λ r. ⌜ OpenAfter (step .session .output .open) true (r .open) ⌝ }
 {
-    let last = put_end(o, out, good);
-    flush(last, out);
+    let last = print_line(step.session.output, out, Line::End(step.good));
+    flush(last, out)
 }

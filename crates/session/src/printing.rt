@@ -1,15 +1,18 @@
 // Buffered lines on standard output. Once a write fails nothing more is written.
 use crate::Output;
 use libc::STDOUT_FILENO;
+use lines::Line;
 use registers::Answer;
 use registers::ReadAnswer;
 ghost use Prim.Native.Nat.{min};
+ghost use mathlib.Core.Bool.{true};
+ghost use mathlib.Core.List.{[], _∷_};
 ghost use mathlib.Core.Path.{_≡_};
 ghost use lib.ListN.{length};
 ghost use Rattle.io.specs.Counts.{Counts};
 ghost use Rattle.registers.specs.Refusals.{reply, readReply};
-ghost use Rattle.lines.specs.Lines.{refusedLine, frameLine, rowLine, badLine, endLine};
-ghost use Rattle.session.specs.Output.{buffer, usedBefore, printed, printedAll, StaysClosed};
+ghost use Rattle.lines.specs.Lines.{lineText, rowLine};
+ghost use Rattle.session.specs.Output.{buffer, isFull, usedBefore, OpenAfter, Prints};
 ghost use Rattle.session.specs.Records.{writeReplyLines, readReplyLines};
 
 // The longest line: a row of 640 dots and its end.
@@ -29,7 +32,7 @@ pub fn at_most(n: usize, s: &[u8]) -> usize
 // Writes out what the buffer holds.
 pub fn flush(o: Output, out: &[u8]) -> Output
     ensures { λ r. ⌜ r .used ≡ 0 ⌝ }
-    ensures { λ r. ⌜ StaysClosed o r ⌝ }
+    ensures { λ r. ⌜ OpenAfter (o .open) true (r .open) ⌝ }
 {
     let used = at_most(o.used, out);
     Output {
@@ -41,7 +44,7 @@ pub fn flush(o: Output, out: &[u8]) -> Output
 // Room for any line: the buffer is written out where it has less.
 fn room(o: Output, out: &[u8]) -> Output
     ensures { λ r. ⌜ r .used ≡ usedBefore (buffer (now (out .entry)) (o .used)) ⌝ }
-    ensures { λ r. ⌜ StaysClosed o r ⌝ }
+    ensures { λ r. ⌜ OpenAfter (o .open) (isFull (buffer (now (out .entry)) (o .used))) (r .open) ⌝ }
 {
     let used = at_most(o.used, out);
     if out.len() - used < LONGEST_LINE {
@@ -50,93 +53,50 @@ fn room(o: Output, out: &[u8]) -> Output
     o
 }
 
-fn put_refused(o: Output, out: &mut [u8], record: u64, byte: u64, number: u8) -> Output
-    ensures { λ r. ⌜ buffer (now (out .exit)) (r .used) ≡ printed (buffer (now (out .entry)) (o .used)) (refusedLine «record» byte number) ⌝ }
-    ensures { λ r. ⌜ StaysClosed o r ⌝ }
+pub fn print_line(o: Output, out: &mut [u8], line: Line) -> Output
+    ensures { λ r. ⌜ Prints (lineText line ∷ []) o (now (out .entry)) r (now (out .exit)) ⌝ }
 {
     let o = room(o, out);
     Output {
-        used: lines::refused(out, o.used, record, byte, number),
+        used: lines::append_line(out, o.used, line),
+        open: o.open,
+    }
+}
+
+pub fn print_row(o: Output, out: &mut [u8], row: &[u8]) -> Output
+    ensures { λ r. ⌜ Prints (rowLine (now (row .entry)) ∷ []) o (now (out .entry)) r (now (out .exit)) ⌝ }
+{
+    let o = room(o, out);
+    Output {
+        used: lines::append_row(out, o.used, row),
         open: o.open,
     }
 }
 
 // What a write is answered: nothing is printed where it is accepted.
-pub fn put_answer(o: Output, out: &mut [u8], answer: Answer, record: u64, byte: u64) -> Output
-    ensures { λ r. ⌜ buffer (now (out .exit)) (r .used) ≡ printedAll (buffer (now (out .entry)) (o .used)) (writeReplyLines «record» byte (reply answer)) ⌝ }
-    ensures { λ r. ⌜ StaysClosed o r ⌝ }
+pub fn print_answer(o: Output, out: &mut [u8], answer: Answer, record: u64, byte: u64) -> Output
+    ensures { λ r. ⌜ Prints (writeReplyLines «record» byte (reply answer)) o (now (out .entry)) r (now (out .exit)) ⌝ }
 {
     match answer {
         Answer::Accepted => o,
-        Answer::Refused(refusal) => put_refused(o, out, record, byte, refusal.number()),
+        Answer::Refused(refusal) => print_line(
+            o,
+            out,
+            Line::Refused(record, byte, refusal.number()),
+        ),
     }
 }
 
 // What a read is answered: its value, or the refusal.
-pub fn put_read(o: Output, out: &mut [u8], answer: ReadAnswer, record: u64, index: u64) -> Output
-    ensures { λ r. ⌜ buffer (now (out .exit)) (r .used) ≡ printedAll (buffer (now (out .entry)) (o .used)) (readReplyLines «record» index (readReply answer)) ⌝ }
-    ensures { λ r. ⌜ StaysClosed o r ⌝ }
+pub fn print_read(o: Output, out: &mut [u8], answer: ReadAnswer, record: u64, index: u64) -> Output
+    ensures { λ r. ⌜ Prints (readReplyLines «record» index (readReply answer)) o (now (out .entry)) r (now (out .exit)) ⌝ }
 {
     match answer {
-        ReadAnswer::Refused(refusal) => put_refused(o, out, record, index, refusal.number()),
-        ReadAnswer::Value(v) => {
-            let o = room(o, out);
-            Output {
-                used: lines::read(out, o.used, record, index, v),
-                open: o.open,
-            }
-        }
-    }
-}
-
-// The line before a frame's rows.
-pub fn put_frame(
-    o: Output,
-    out: &mut [u8],
-    record: u64,
-    frame: u32,
-    width: usize,
-    rows: u16,
-) -> Output
-    ensures { λ r. ⌜ buffer (now (out .exit)) (r .used) ≡ printed (buffer (now (out .entry)) (o .used)) (frameLine «record» frame width rows) ⌝ }
-    ensures { λ r. ⌜ StaysClosed o r ⌝ }
-{
-    let o = room(o, out);
-    Output {
-        used: lines::frame(out, o.used, record, frame, width, rows),
-        open: o.open,
-    }
-}
-
-pub fn put_row(o: Output, out: &mut [u8], row: &[u8]) -> Output
-    ensures { λ r. ⌜ buffer (now (out .exit)) (r .used) ≡ printed (buffer (now (out .entry)) (o .used)) (rowLine (now (row .entry))) ⌝ }
-    ensures { λ r. ⌜ StaysClosed o r ⌝ }
-{
-    let o = room(o, out);
-    Output {
-        used: lines::row(out, o.used, row),
-        open: o.open,
-    }
-}
-
-pub fn put_bad(o: Output, out: &mut [u8], record: u64) -> Output
-    ensures { λ r. ⌜ buffer (now (out .exit)) (r .used) ≡ printed (buffer (now (out .entry)) (o .used)) (badLine «record») ⌝ }
-    ensures { λ r. ⌜ StaysClosed o r ⌝ }
-{
-    let o = room(o, out);
-    Output {
-        used: lines::bad(out, o.used, record),
-        open: o.open,
-    }
-}
-
-pub fn put_end(o: Output, out: &mut [u8], count: u64) -> Output
-    ensures { λ r. ⌜ buffer (now (out .exit)) (r .used) ≡ printed (buffer (now (out .entry)) (o .used)) (endLine count) ⌝ }
-    ensures { λ r. ⌜ StaysClosed o r ⌝ }
-{
-    let o = room(o, out);
-    Output {
-        used: lines::end(out, o.used, count),
-        open: o.open,
+        ReadAnswer::Refused(refusal) => print_line(
+            o,
+            out,
+            Line::Refused(record, index, refusal.number()),
+        ),
+        ReadAnswer::Value(v) => print_line(o, out, Line::Read(record, index, v)),
     }
 }

@@ -1,6 +1,7 @@
 use mathlib.Core.Path.{ap}
 use borrow.Author.Needs.{needs}
 use Rattle.session.specs.Output.{Buffer}
+use Rattle.session.proofs.Buffers.{then-written}
 use Rattle.session.proofs.file.finish.Statement.{statement}
 use Rattle.session.proofs.file.finish.Tie as tie
 
@@ -11,4 +12,7 @@ finish-spec =
     (λ c κs. search needs)
     (λ c κs. search needs)
     (λ c. search needs)
-    (λ c. ap (λ (b : Buffer). b .bytes) (c .before .before .before .before .put-end .ensures .0)))
+    (λ c.
+    let last = c .before .before .before .before .print-line .ensures in
+    let out = c .flush .ensures in
+    (ap (λ (b : Buffer). b .bytes) (last .text), (out .0, then-written _ (last .stays) (out .1)))))

@@ -1,4 +1,5 @@
-use mathlib.Core.Path.{_∙_}
+use mathlib.Core.Logic.{inl}
+use mathlib.Core.Path.{refl, _∙_}
 use native.Mathlib.Omega.{arith}
 use borrow.Author.Needs.{needs}
 use Rattle.session.proofs.Buffers.{written-out, has-room}
@@ -12,5 +13,7 @@ room-spec =
     (λ c κs. search needs)
     (λ c. search needs)
     (λ c κs. search needs)
-    (λ c. (c .flush .ensures .0 ∙ written-out _ _ (omega (arith, c .before .if1 .taken, c .before .before .at-most .ensures .1)), c .flush .ensures .1))
-    (λ c. (has-room _ _ (omega (arith, c .if1 .left, c .before .at-most .ensures .1)), λ e. e)))
+    (λ c.
+    let full = written-out _ _ (omega (arith, c .before .if1 .taken, c .before .before .at-most .ensures .1)) in
+    (c .flush .ensures .0 ∙ full .1, rw (full .0) (c .flush .ensures .1)))
+    (λ c. (has-room _ _ (omega (arith, c .if1 .left, c .before .at-most .ensures .1)), inl refl)))

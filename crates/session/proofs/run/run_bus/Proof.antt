@@ -1,5 +1,4 @@
 use native.Mathlib.Omega.{arith}
-use mathlib.Core.Path.{_∙_}
 use borrow.Author.Needs.{needs}
 use Rattle.session.proofs.Calls.{command-first, no-calls, no-bytes}
 use Rattle.session.proofs.run.run_bus.Statement.{statement}
@@ -9,7 +8,7 @@ pub run-bus-spec : {M : Type 1} → statement M
 run-bus-spec =
     tie.close
     (tie.spec
-    (λ c. let a = c .before .before .before .before .args in (no-calls (a .«record») 1 _ _ (no-bytes (a .payload .now) (c .if1 .taken)), λ e. e))
+    (λ c. let a = c .before .before .before .before .args in no-calls (a .«record») 1 _ _ (no-bytes (a .payload .now) (c .if1 .taken)))
     (λ c. search needs)
     (λ c κs. search needs)
     (λ c κs. search needs)
@@ -19,6 +18,4 @@ run-bus-spec =
     let d = c .before .before .before .before in
     let k = d .before .before .before .before .before in
     let a = k .before .before .before .before .before .before .before .args in
-    let first = k .run-command .ensures in
-    let rest = d .run-data .ensures in
-    (rest .0 ∙ command-first (a .«record») (a .payload .now) _ (omega arith) (first .0 (a .memory .now)), λ e. rest .1 (first .1 e))))
+    command-first (a .«record») (a .payload .now) _ (omega arith) (k .run-command .ensures (a .memory .now)) (d .run-data .ensures)))

@@ -1,5 +1,6 @@
 use borrow.Author.Needs.{needs}
 use Rattle.model.specs.Calls.{command}
+use Rattle.session.specs.Carrying.{live}
 use Rattle.session.proofs.Calls.{one-call}
 use Rattle.session.proofs.run.run_command.Statement.{statement}
 use Rattle.session.proofs.run.run_command.Tie as tie
@@ -11,4 +12,9 @@ run-command-spec =
     (λ c κs. search needs)
     (λ c κs. search needs)
     (λ c. search needs)
-    (λ c. let p = c .before .before in let w = p .before .before .before in let a = w .before .before .before .args in (λ memory. one-call (a .«record») 1 _ (command (a .b)) (w .command-write .ensures memory) (p .put-answer .ensures .0), p .put-answer .ensures .1)))
+    (λ c.
+    let p = c .before .before in
+    let w = p .before .before .before in
+    let a = w .before .before .before .args in
+    let printed = p .print-answer .ensures in
+    λ memory. one-call (a .«record») 1 (live (a .s) memory (a .out .now)) (command (a .b)) (w .command-write .ensures memory) (printed .text) (printed .stays)))

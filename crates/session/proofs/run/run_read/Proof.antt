@@ -1,5 +1,6 @@
 use borrow.Author.Needs.{needs}
 use Rattle.model.specs.Calls.{read}
+use Rattle.session.specs.Carrying.{live}
 use Rattle.session.proofs.Calls.{one-call}
 use Rattle.session.proofs.run.run_read.Statement.{statement}
 use Rattle.session.proofs.run.run_read.Tie as tie
@@ -11,4 +12,9 @@ run-read-spec =
     (λ c κs. search needs)
     (λ c κs. search needs)
     (λ c. search needs)
-    (λ c. let p = c .before .before in let w = p .before .before .before in let a = w .before .before .before .before .args in (one-call (a .«record») (a .index) _ read (w .data-read .ensures) (p .put-read .ensures .0), p .put-read .ensures .1)))
+    (λ c.
+    let p = c .before .before in
+    let w = p .before .before .before in
+    let a = w .before .before .before .before .args in
+    let printed = p .print-read .ensures in
+    one-call (a .«record») (a .index) (live (a .s) (a .memory .now) (a .out .now)) read (w .data-read .ensures) (printed .text) (printed .stays)))

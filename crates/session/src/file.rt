@@ -12,9 +12,12 @@ ghost use Prim.Native.Nat.{ℕ};
 ghost use mathlib.Core.Bool.{true};
 ghost use mathlib.Core.List.{List};
 ghost use mathlib.Core.Path.{_≡_};
+ghost use Rattle.busfile.specs.Records.{recordAt};
 ghost use Rattle.lines.specs.Lines.{endLine};
+ghost use Rattle.model.specs.Machine.{machine};
 ghost use Rattle.session.specs.Output.{buffer, printed, writesOut, OpenAfter};
-ghost use Rattle.session.specs.File.{progress, startOf, following, nextStep, stepLines};
+ghost use Rattle.session.specs.Records.{state};
+ghost use Rattle.session.specs.File.{progress, startOf, following, foundLines, afterFound, nextStep, stepLines};
 
 // Before the first record: a controller from reset, and nothing printed.
 pub fn start() -> Step
@@ -42,19 +45,17 @@ fn following(good: u64) -> u64
     std::num::wrapping_add_u64(good, 1)
 }
 
-// Carries out the record at the step's place. A bad one prints `bad` and stops, and so does the end, silently.
-pub fn next(step: Step, memory: &mut [u8], font: &[u8], out: &mut [u8], file: &[u8]) -> Step
+// Carries out what stands at the step's place. A bad record prints `bad` and stops, and so does the end, silently.
+fn next_record(step: Step, memory: &mut [u8], font: &[u8], out: &mut [u8], file: &[u8]) -> Step
     ensures { λ r. ⌜ progress r (now (memory .exit)) (now (out .exit))
-        ≡ nextStep (now (font .entry)) (now (file .entry)) (progress step (now (memory .entry)) (now (out .entry))) ⌝ }
+        ≡ afterFound (now (font .entry)) (now (file .entry)) (step .at) (step .good) (recordAt (now (file .entry)) (step .at))
+        (state (step .session) (now (memory .entry)) (now (out .entry))) ⌝ }
     ensures { λ r. ⌜ OpenAfter (step .session .output .open)
         (writesOut (buffer (now (out .entry)) (step .session .output .used))
-        (stepLines (now (font .entry)) (now (file .entry)) (progress step (now (memory .entry)) (now (out .entry)))))
+        (foundLines (following (step .good)) (machine (step .session .controller) (now (memory .entry))) (now (font .entry)) (now (file .entry))
+        (recordAt (now (file .entry)) (step .at))))
         (r .session .output .open) ⌝ }
 {
-    let more = step.more;
-    if !more {
-        return step;
-    }
     let at = step.at;
     let good = step.good;
     let s = step.session;
@@ -88,6 +89,21 @@ pub fn next(step: Step, memory: &mut [u8], font: &[u8], out: &mut [u8], file: &[
         good: number,
         more: true,
     }
+}
+
+// The next record of a file that goes on; one that has stopped stays as it is.
+pub fn next(step: Step, memory: &mut [u8], font: &[u8], out: &mut [u8], file: &[u8]) -> Step
+    ensures { λ r. ⌜ progress r (now (memory .exit)) (now (out .exit))
+        ≡ nextStep (now (font .entry)) (now (file .entry)) (progress step (now (memory .entry)) (now (out .entry))) ⌝ }
+    ensures { λ r. ⌜ OpenAfter (step .session .output .open)
+        (writesOut (buffer (now (out .entry)) (step .session .output .used))
+        (stepLines (now (font .entry)) (now (file .entry)) (progress step (now (memory .entry)) (now (out .entry)))))
+        (r .session .output .open) ⌝ }
+{
+    if step.more {
+        return next_record(step, memory, font, out, file);
+    }
+    step
 }
 
 // Prints the last line, and writes out what the buffer holds.

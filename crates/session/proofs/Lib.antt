@@ -7,3 +7,4 @@ pub mod Program
 pub mod Short
 pub mod Parts
 pub mod Stream
+pub mod Reading

@@ -5,3 +5,4 @@ pub mod File
 pub mod Parts
 pub mod Stream
 pub mod Program
+pub mod Reading

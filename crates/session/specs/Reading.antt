@@ -1,0 +1,39 @@
+-- Reference, 'Bus files': a file of any length is read in parts, and its records are carried out in turn.
+use Prim.Native.Nat.{ℕ, _+_, _≤_}
+use mathlib.Core.Bool.{Bool, true, false}
+use mathlib.Core.List.{List, [], _++_}
+use mathlib.Core.Logic.{_⊎_}
+use mathlib.Core.Path.{_≡_}
+use lib.ListN.{length}
+use Rattle.busfile.specs.Parts.{longestRecord}
+use Rattle.session.specs.File.{Progress}
+use Rattle.session.specs.Parts.{furtherOn}
+use Rattle.session.specs.Program.{steps}
+
+-- Some of a file is read, and k steps are done: a progress stands at a place in the last part, and with the bytes before the part it is what k steps of
+-- the file come to, whatever follows the part; nothing does where the file has ended.
+abbrev pub SoFar : List ℕ → Progress → ℕ → Progress → List ℕ → Bool → Type 0
+SoFar font start k p part ended =
+    (before : List ℕ)
+    × ((after : List ℕ) → (ended ≡ true → after ≡ []) → steps k font (before ++ (part ++ after)) start ≡ furtherOn (length before) p)
+
+-- reading on from a place in a part: bytes before the place may go, and more come behind the rest, until the longest record would be whole or the
+-- file has ended
+pub record ReadsOn (part : List ℕ) (at : ℕ) (ended : Bool) (part′ : List ℕ) (at′ : ℕ) (ended′ : Bool) : Type 0 where
+  pub past : List ℕ
+  pub rest : List ℕ
+  pub more : List ℕ
+  pub was : part ≡ past ++ rest
+  pub becomes : part′ ≡ rest ++ more
+  pub place : at ≡ length past + at′
+  pub still : ended ≡ true → (more ≡ []) × (ended′ ≡ true)
+  pub enough : (ended′ ≡ true) ⊎ (at′ + longestRecord ≤ length part′)
+
+-- The records of a file, which is all bytes that were read, were carried out until it stopped or standard output took no more; or a number of turns is
+-- used up.
+pub record Ran (font : List ℕ) (start : Progress) (turns : ℕ) (p : Progress) (takes : Bool) : Type 0 where
+  pub file : List ℕ
+  pub count : ℕ
+  pub past : ℕ
+  pub ran : steps count font file start ≡ furtherOn past p
+  pub stopped : (p .more ≡ false) ⊎ ((takes ≡ false) ⊎ (count ≡ turns))

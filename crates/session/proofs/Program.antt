@@ -1,13 +1,15 @@
 -- All that the program prints of a file.
 use Prim.Native.Nat.{ℕ, zero, suc, _+_, _-_, _^_, _<_, _≤_}
-use mathlib.Core.Bool.{false, true}
+use mathlib.Core.Bool.{Bool, false, true}
 use mathlib.Core.List.{List, [], _∷_, _++_, flatten}
-use mathlib.Core.Path.{_≡_, refl}
+use mathlib.Core.Path.{_≡_, refl, sym, ap, _∙_}
+use native.Mathlib.Nat.{zero-add, suc-add}
 use native.Mathlib.Omega.{arith}
 use lib.ListN.{length, replicate, drop, length-take}
+use Rattle.choice.specs.Choice.{if_then_else_}
 use Rattle.registers.specs.Sizes.{memorySize}
 use Rattle.model.specs.Machine.{Machine}
-use Rattle.model.specs.Calls.{after, reset}
+use Rattle.model.specs.Calls.{after}
 use Rattle.model.specs.Refresh.{All, Byte}
 use Rattle.busfile.specs.declared.Found.{Found}
 use Rattle.busfile.specs.declared.Found.the-variants.{Record, Bad, End}
@@ -17,9 +19,9 @@ use Rattle.lines.specs.Lines.{ascii, decimal, endLine, longestLine}
 use Rattle.lines.proofs.Lengths.{line-length}
 use Rattle.session.specs.Output.{Buffer, buffer, printed, printedAll}
 use Rattle.session.specs.Records.{State, afterRecord, recordCalls, recordLines}
-use Rattle.session.specs.File.{Progress, startOf, following, foundLines, afterFound}
+use Rattle.session.specs.File.{Progress, startOf, following, foundLines, afterFound, nextStep}
 use Rattle.session.specs.Stream.{held, writtenOut, Short}
-use Rattle.session.specs.Program.{laterLines, linesFrom, programLines, steps, ProgramPrints}
+use Rattle.session.specs.Program.{laterLines, linesFrom, programLines, steps, PrintsAll, ProgramPrints}
 use Rattle.session.proofs.Buffers.{printed-both}
 use Rattle.session.proofs.Bytes.{LfByte, part-bytes, record-keeps}
 use Rattle.session.proofs.Short.{both-short, lines-short}
@@ -101,9 +103,32 @@ from-empty : (out : List ℕ) (lines : List (List ℕ)) (b : Buffer) → longest
     → writtenOut (buffer out 0) lines ++ held b ≡ flatten lines
 from-empty out lines b room short e = rw e (nothing-lost (buffer out 0) lines room short)
 
+-- Any number of steps
+
+module _ (font file : List ℕ) where
+  steps-both : (k j : ℕ) (p : Progress) → steps (k + j) font file p ≡ steps j font file (steps k font file p)
+  steps-both zero j p = rw zero-add
+  steps-both (suc k) j p = rw suc-add (steps-both k j (nextStep font file p))
+
+  -- a progress that stopped stays
+  stays : (k : ℕ) (p : Progress) → p .more ≡ false → steps k font file p ≡ p
+  stays zero p e = refl
+  stays (suc k) p e =
+      let found = afterFound font file (p .at) (p .good) (recordAt file (p .at)) (p .state) in
+      ap (λ (more : Bool). steps k font file (if more then found else p)) e ∙ stays k p e
+
+  -- so all numbers of steps after which a file has stopped come to the same
+  same-stop : (k j : ℕ) (p : Progress) → steps k font file p .more ≡ false → steps j font file p .more ≡ false → steps k font file p ≡ steps j font file p
+  same-stop k j p e f =
+      let turned : k + j ≡ j + k = omega arith in
+      sym (steps-both k j p ∙ stays j (steps k font file p) e) ∙ ap (λ (n : ℕ). steps n font file p) turned
+      ∙ steps-both j k p ∙ stays k (steps j font file p) f
+
 pub program-prints : ProgramPrints
 program-prints font file out bytes room =
-    let memory : List ℕ = replicate memorySize 0 in
-    let done = steps-end font file (length file + 1) (startOf memory out .state) 0 0 (omega arith) in
-    let short = all-short font file bytes (length file + 1) (reset memory) 0 0 (omega arith) (omega arith) in
-    record { ends = done .stops; prints = done .prints; whole = from-empty out (programLines font file) _ room short (done .prints) }
+    let start = startOf (replicate memorySize 0) out in
+    let done = steps-end font file (length file + 1) (start .state) 0 0 (omega arith) in
+    let short = all-short font file bytes (length file + 1) (start .state .machine) 0 0 (omega arith) (omega arith) in
+    let all : PrintsAll font file out (steps (length file + 1) font file start) =
+    record { prints = done .prints; whole = from-empty out (programLines font file) _ room short (done .prints) } in
+    (done .stops, λ k stopped. rw (same-stop font file k (length file + 1) start stopped (done .stops)) all)

@@ -5,18 +5,20 @@ use mathlib.Core.List.{List, [], _++_, append-assoc}
 use mathlib.Core.Logic.{_⊎_, inl, inr, ⊎-elim}
 use mathlib.Core.Path.{_≡_, refl, sym, ap, subst, _∙_}
 use native.Mathlib.Omega.{arith}
-use lib.ListN.{length, length-append}
+use lib.ListN.{length, replicate, length-append}
+use Rattle.registers.specs.Sizes.{memorySize}
 use Rattle.choice.specs.Choice.{if_then_else_}
 use Rattle.busfile.specs.declared.Found.{Found}
 use Rattle.busfile.specs.declared.Found.the-variants.{Record, Bad, End}
 use Rattle.busfile.specs.Records.{recordAt}
 use Rattle.busfile.specs.Parts.{longestRecord}
 use Rattle.busfile.proofs.Ends.{record-ends}
-use Rattle.session.specs.File.{Progress, afterFound, nextStep}
+use Rattle.session.specs.File.{Progress, startOf, afterFound, nextStep}
 use Rattle.session.specs.Parts.{furtherOn}
 use Rattle.session.specs.Program.{steps}
-use Rattle.session.specs.Reading.{SoFar, ReadsOn}
+use Rattle.session.specs.Reading.{SoFar, ReadsOn, RunPrints}
 use Rattle.session.proofs.Parts.{steps-in-parts}
+use Rattle.session.proofs.Program.{program-prints}
 
 -- the last step apart
 steps-last : (k : ℕ) (font file : List ℕ) (p : Progress) → steps (suc k) font file p ≡ nextStep font file (steps k font file p)
@@ -52,7 +54,7 @@ turn-more font start k p part part′ at′ ended ended′ done r = (before ++ r
     one-more after last =
         let file = (before ++ r .past) ++ (part′ ++ after) in
         let reached : steps k font file start ≡ furtherOn (length before) p =
-            subst (λ (l : List ℕ). steps k font l start ≡ furtherOn (length before) p) (same-file before (r .past) (r .rest) (r .more) after (r .was) (r .becomes)) (done .1 (r .more ++ after) (none-after after last)) in
+        subst (λ (l : List ℕ). steps k font l start ≡ furtherOn (length before) p) (same-file before (r .past) (r .rest) (r .more) after (r .was) (r .becomes)) (done .1 (r .more ++ after) (none-after after last)) in
         steps-last k font file start ∙ ap (nextStep font file) (reached ∙ same-place)
         ∙ sym (steps-in-parts font (before ++ r .past) part′ after (placed at′ p) (enough after last))
 
@@ -66,3 +68,10 @@ place-within font part p h = go (p .more) (recordAt part (p .at)) refl
     go true End e = h
     go true Bad e = h
     go true (Record r) e = record-ends part (p .at) r e .1
+
+pub run-prints : RunPrints
+run-prints font out turns p takes r stopped bytes room =
+    let start = startOf (replicate memorySize 0) out in
+    let all = program-prints font (r .file) out bytes room .1 (r .count) (rw (r .ran) stopped) in
+    let same = rw (r .ran) at all in
+    record { prints = same .prints; whole = same .whole }

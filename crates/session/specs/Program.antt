@@ -39,14 +39,16 @@ abbrev pub steps : ℕ → List ℕ → List ℕ → Progress → Progress
 steps zero font file p = p
 steps (suc k) font file p = steps k font file (nextStep font file p)
 
--- The steps of a file come to a stop, and with the last line all lines of the program are printed, each behind the one before it
-pub record Prints (font file out : List ℕ) (p : Progress) : Type 0 where
-  pub ends : p .more ≡ false
+-- With the last line all lines of the program are printed, each behind the one before it
+pub record PrintsAll (font file out : List ℕ) (p : Progress) : Type 0 where
   pub prints : printed (p .state .output) (endLine (p .good)) ≡ printedAll (buffer out 0) (programLines font file)
   -- so what was written out and what is held then are the whole text
   pub whole : writtenOut (buffer out 0) (programLines font file) ++ held (printed (p .state .output) (endLine (p .good))) ≡ flatten (programLines font file)
 
+-- the steps of a file come to a stop, and wherever they have stopped, all lines are printed
 abbrev pub ProgramPrints : Type 0
 ProgramPrints =
     (font file out : List ℕ) → All Byte file → longestLine ≤ length out
-    → Prints font file out (steps (length file + 1) font file (startOf (replicate memorySize 0) out))
+    → let start = startOf (replicate memorySize 0) out in
+    (steps (length file + 1) font file start .more ≡ false)
+    × ((k : ℕ) → steps k font file start .more ≡ false → PrintsAll font file out (steps k font file start))

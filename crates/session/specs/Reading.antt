@@ -4,11 +4,14 @@ use mathlib.Core.Bool.{Bool, true, false}
 use mathlib.Core.List.{List, [], _++_}
 use mathlib.Core.Logic.{_⊎_}
 use mathlib.Core.Path.{_≡_}
-use lib.ListN.{length}
+use lib.ListN.{length, replicate}
+use Rattle.registers.specs.Sizes.{memorySize}
+use Rattle.model.specs.Refresh.{All, Byte}
 use Rattle.busfile.specs.Parts.{longestRecord}
-use Rattle.session.specs.File.{Progress}
+use Rattle.lines.specs.Lines.{longestLine}
+use Rattle.session.specs.File.{Progress, startOf}
 use Rattle.session.specs.Parts.{furtherOn}
-use Rattle.session.specs.Program.{steps}
+use Rattle.session.specs.Program.{steps, PrintsAll}
 
 -- Some of a file is read, and k steps are done: a progress stands at a place in the last part, and with the bytes before the part it is what k steps of
 -- the file come to, whatever follows the part; nothing does where the file has ended.
@@ -37,3 +40,9 @@ pub record Ran (font : List ℕ) (start : Progress) (turns : ℕ) (p : Progress)
   pub past : ℕ
   pub ran : steps count font file start ≡ furtherOn past p
   pub stopped : (p .more ≡ false) ⊎ ((takes ≡ false) ⊎ (count ≡ turns))
+
+-- so a run that stopped has printed all lines of the file that was read
+abbrev pub RunPrints : Type 0
+RunPrints =
+    (font out : List ℕ) (turns : ℕ) (p : Progress) (takes : Bool) (r : Ran font (startOf (replicate memorySize 0) out) turns p takes)
+    → p .more ≡ false → All Byte (r .file) → longestLine ≤ length out → PrintsAll font (r .file) out p

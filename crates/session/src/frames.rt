@@ -5,15 +5,27 @@ use crate::Session;
 use crate::printing::at_most;
 use crate::printing::print_answer;
 use crate::printing::print_line;
-use crate::printing::print_row;
+use crate::printing::room;
 use lines::Line;
 use registers::Answer;
+ghost use mathlib.Core.List.{[], _∷_};
 ghost use mathlib.Core.Path.{_≡_};
 ghost use lib.ListN.{length};
 ghost use Rattle.row.specs.Rows.{frameSize};
+ghost use Rattle.lines.specs.Lines.{rowLine};
 ghost use Rattle.model.specs.Machine.{machine};
 ghost use Rattle.session.specs.Output.{Prints};
 ghost use Rattle.session.specs.Records.{rowOf, rowLines, framed, frameLines};
+
+fn print_row(o: Output, out: &mut [u8], row: &[u8]) -> Output
+    ensures { λ r. ⌜ Prints (rowLine (now (row .entry)) ∷ []) o (now (out .entry)) r (now (out .exit)) ⌝ }
+{
+    let o = room(o, out);
+    Output {
+        used: lines::append_row(out, o.used, row),
+        open: o.open,
+    }
+}
 
 // The rows of a frame whose first row is accepted.
 fn show_rows(

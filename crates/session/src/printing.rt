@@ -11,7 +11,7 @@ ghost use mathlib.Core.Path.{_≡_};
 ghost use lib.ListN.{length};
 ghost use Rattle.io.specs.Counts.{Counts};
 ghost use Rattle.registers.specs.Refusals.{reply, readReply};
-ghost use Rattle.lines.specs.Lines.{lineText, rowLine};
+ghost use Rattle.lines.specs.Lines.{lineText};
 ghost use Rattle.session.specs.Output.{buffer, isFull, usedBefore, OpenAfter, Prints};
 ghost use Rattle.session.specs.Records.{writeReplyLines, readReplyLines};
 
@@ -42,7 +42,7 @@ pub fn flush(o: Output, out: &[u8]) -> Output
 }
 
 // Room for any line: the buffer is written out where it has less.
-fn room(o: Output, out: &[u8]) -> Output
+pub fn room(o: Output, out: &[u8]) -> Output
     ensures { λ r. ⌜ r .used ≡ usedBefore (buffer (now (out .entry)) (o .used)) ⌝ }
     ensures { λ r. ⌜ OpenAfter (o .open) (isFull (buffer (now (out .entry)) (o .used))) (r .open) ⌝ }
 {
@@ -59,16 +59,6 @@ pub fn print_line(o: Output, out: &mut [u8], line: Line) -> Output
     let o = room(o, out);
     Output {
         used: lines::append_line(out, o.used, line),
-        open: o.open,
-    }
-}
-
-pub fn print_row(o: Output, out: &mut [u8], row: &[u8]) -> Output
-    ensures { λ r. ⌜ Prints (rowLine (now (row .entry)) ∷ []) o (now (out .entry)) r (now (out .exit)) ⌝ }
-{
-    let o = room(o, out);
-    Output {
-        used: lines::append_row(out, o.used, row),
         open: o.open,
     }
 }

@@ -16,7 +16,7 @@ Inv-loop memory₀ out₀ payload «record» controller₀ o₀ i₀ memory out 
     let s₀ : Session = record { controller = controller₀; output = o₀ } in
     let s : Session = record { controller = controller; output = o } in
     ((t : Live) → CarriesOutCalls «record» (i + 1) (map write (drop i payload)) (live s memory out) t
-        → CarriesOutCalls «record» 2 (map write (drop 1 payload)) (live s₀ memory₀ out₀) t)
+    → CarriesOutCalls «record» 2 (map write (drop 1 payload)) (live s₀ memory₀ out₀) t)
     × (length memory ≡ length memory₀) × (length out ≡ length out₀)
 
 abbrev μ-loop : tie.MeasureT-loop

@@ -14,7 +14,7 @@ use Rattle.session.proofs.run.run_reads.Tie as tie
 abbrev Inv-loop : tie.InvT-loop
 Inv-loop memory out₀ count «record» session₀ i₀ out session i =
     ((t : Live) → CarriesOutCalls «record» (i + 1) (replicate (count - i) read) (live session memory out) t
-        → CarriesOutCalls «record» 1 (replicate count read) (live session₀ memory out₀) t)
+    → CarriesOutCalls «record» 1 (replicate count read) (live session₀ memory out₀) t)
     × (length out ≡ length out₀)
 
 abbrev μ-loop : tie.MeasureT-loop

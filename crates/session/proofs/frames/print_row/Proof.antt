@@ -2,8 +2,8 @@ use mathlib.Core.Path.{refl}
 use borrow.Author.Needs.{needs}
 use Rattle.lines.specs.Lines.{rowLine}
 use Rattle.session.proofs.Buffers.{prints-line}
-use Rattle.session.proofs.printing.print_row.Statement.{statement}
-use Rattle.session.proofs.printing.print_row.Tie as tie
+use Rattle.session.proofs.frames.print_row.Statement.{statement}
+use Rattle.session.proofs.frames.print_row.Tie as tie
 
 pub print-row-spec : {M : Type 1} → statement M
 print-row-spec =

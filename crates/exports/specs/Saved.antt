@@ -3,7 +3,7 @@ use Prim.Native.Nat.{ℕ, _+_, _*_, _/_, _%_}
 use mathlib.Core.Bool.{Bool, _&&_}
 use mathlib.Core.List.{List, [], _∷_}
 use lib.ListN.{length, getD}
-use Rattle.choice.specs.Choice.{if_then_else_, _=?_}
+use Rattle.choice.specs.Choice.{if_then_else_, _<?_, _=?_}
 use Rattle.registers.specs.declared.Direction.{Direction}
 use Rattle.registers.specs.declared.Direction.the-variants.{Right, Left, Up, Down}
 use Rattle.registers.specs.declared.Code.{Code}
@@ -12,6 +12,7 @@ use Rattle.registers.specs.declared.Blocks.{Blocks}
 use Rattle.registers.specs.declared.Registers.{Registers}
 use Rattle.registers.specs.Commands.{commandOf, code}
 use Rattle.registers.specs.Counts.{codeOf}
+use Rattle.registers.specs.Parameters.{directionOf}
 use Rattle.model.specs.declared.Controller.{Controller}
 
 -- Reading. What is outside its layout is read as 0: a flag above 1, a direction above 3, a pending code that is no command's
@@ -34,7 +35,7 @@ wordAt s i = byteAt s i + 256 * byteAt s (i + 1)
 
 -- in the order of 4C to 4F
 unfoldable pub directionNumbered : ℕ → Direction
-directionNumbered n = if n =? 1 then Left else if n =? 2 then Up else if n =? 3 then Down else Right
+directionNumbered n = if n <? 4 then directionOf (0x4C + n) else Right
 
 abbrev pub systemOf : List ℕ → System
 systemOf s =

@@ -1,4 +1,5 @@
-// The exported calls.
+// The exported calls. Each answers with the number of the refusal, 0 where there is none; or with 255 where the bytes are no
+// saved controller, and then it changes nothing. A data read answers with its value too, times 256.
 use crate::saved::is_saved;
 use crate::saved::read;
 use crate::saved::write;

@@ -1,5 +1,6 @@
-use borrow.Author.Tests.{ne-eqb}
+use borrow.Author.Tests.{lt-ltb, le-ltb}
 use Rattle.exports.specs.Saved.{directionNumbered}
+use borrow.Author.Needs.{needs}
 use Rattle.exports.proofs.saved.direction.Statement.{statement}
 use Rattle.exports.proofs.saved.direction.Tie as tie
 
@@ -8,7 +9,7 @@ unfolding directionNumbered
 direction-spec =
     tie.close
     (tie.spec
-    (λ c. rw (c .match .keys1))
-    (λ c. rw (c .match .keys2))
-    (λ c. rw (c .match .keys3))
-    (λ c. let n = c .match .rest in simp (ne-eqb _ _ (n .1), ne-eqb _ _ (n .0 .1), ne-eqb _ _ (n .0 .0 .1))))
+    (λ c. search needs)
+    (λ c κs. search needs)
+    (λ c. rw (c .of .ensures, lt-ltb _ _ (c .before .if1 .taken)))
+    (λ c. rw (le-ltb _ _ (c .if1 .left))))

@@ -1,0 +1,17 @@
+use mathlib.Core.Path.{sym, _∙_}
+use Rattle.exports.specs.Saved.{savedBytes}
+use Rattle.exports.proofs.SavedBytes.{copied}
+use borrow.Author.Needs.{needs}
+use Rattle.exports.proofs.saved.write.Statement.{statement}
+use Rattle.exports.proofs.saved.write.Tie as tie
+
+pub write-spec : {M : Type 1} → statement M
+unfolding savedBytes
+write-spec =
+    tie.close
+    (tie.spec
+    (λ c κs. search needs)
+    (λ c. search needs)
+    (λ c κs. search needs)
+    (λ c. search needs)
+    (λ c. let p = c .before .before in let k = p .before .before .before in let s = k .before .before in copied _ (s .args .out .now) (rw (k .saved .ensures) (sym (s .pre))) (p .copy .ensures .1) ∙ k .saved .ensures))

@@ -1,0 +1,124 @@
+-- A saved controller: 48 bytes, words low byte first, a flag 0 or 1. Bytes 43 to 47 are 0 and kept for later.
+use Prim.Native.Nat.{ℕ, _+_, _*_, _/_, _%_}
+use mathlib.Core.Bool.{Bool, _&&_}
+use mathlib.Core.List.{List, [], _∷_}
+use lib.ListN.{length, getD}
+use Rattle.choice.specs.Choice.{if_then_else_, _=?_}
+use Rattle.registers.specs.declared.Direction.{Direction}
+use Rattle.registers.specs.declared.Direction.the-variants.{Right, Left, Up, Down}
+use Rattle.registers.specs.declared.Code.{Code}
+use Rattle.registers.specs.declared.System.{System}
+use Rattle.registers.specs.declared.Blocks.{Blocks}
+use Rattle.registers.specs.declared.Registers.{Registers}
+use Rattle.registers.specs.Commands.{commandOf, code}
+use Rattle.registers.specs.Counts.{codeOf}
+use Rattle.model.specs.declared.Controller.{Controller}
+
+-- the length, and the format in byte 0
+unfoldable pub isSaved : List ℕ → Bool
+isSaved s = length s =? 48 && getD s 0 0 =? 1
+
+-- Reading. What is outside its layout is read as 0: a flag above 1, a direction above 3, a pending code that is no command's
+
+abbrev pub byteAt : List ℕ → ℕ → ℕ
+byteAt s i = getD s i 0
+
+abbrev pub flagAt : List ℕ → ℕ → Bool
+flagAt s i = getD s i 0 =? 1
+
+abbrev pub codeAt : List ℕ → ℕ → Code
+codeAt s i = codeOf (getD s i 0)
+
+abbrev pub wordAt : List ℕ → ℕ → ℕ
+wordAt s i = getD s i 0 + 256 * getD s (i + 1) 0
+
+-- in the order of 4C to 4F
+unfoldable pub directionNumbered : ℕ → Direction
+directionNumbered n = if n =? 1 then Left else if n =? 2 then Up else if n =? 3 then Down else Right
+
+abbrev pub systemOf : List ℕ → System
+systemOf s =
+    record {
+      iv = flagAt s 4;
+      ws = flagAt s 5;
+      m2 = flagAt s 6;
+      m0 = flagAt s 7;
+      wf = flagAt s 8;
+      fx = codeAt s 9;
+      fy = codeAt s 10;
+      cr = codeAt s 11;
+      tcr = codeAt s 12;
+      lf = codeAt s 13;
+      ap = wordAt s 14;
+    }
+
+abbrev pub blocksOf : List ℕ → Blocks
+blocksOf s =
+    record {
+      sad1 = wordAt s 19;
+      sl1 = codeAt s 21;
+      sad2 = wordAt s 22;
+      sl2 = codeAt s 24;
+      sad3 = wordAt s 25;
+      sad4 = wordAt s 27;
+    }
+
+abbrev pub registersOf : List ℕ → Registers
+registersOf s =
+    record {
+      system = systemOf s;
+      display = record { on = flagAt s 16; fp = byteAt s 17; fc = byteAt s 18 };
+      blocks = blocksOf s;
+      form = record { crx = codeAt s 29; cm = flagAt s 30; cry = codeAt s 31 };
+      overlay = record { ov = flagAt s 32; dm2 = flagAt s 33; dm1 = flagAt s 34; mx = byteAt s 35 };
+      cgram = wordAt s 36;
+      hdot = byteAt s 38;
+      grey = byteAt s 39;
+      cursor = record { address = wordAt s 40; direction = directionNumbered (byteAt s 42) };
+      asleep = flagAt s 1;
+    }
+
+unfoldable pub controllerOf : List ℕ → Controller
+controllerOf s = record { registers = registersOf s; pending = record { command = commandOf (byteAt s 2); place = byteAt s 3 } }
+
+-- Saving. A pending command is saved as the first code of its row, 0 for none
+
+abbrev pub flag : Bool → ℕ
+flag b = if b then 1 else 0
+
+abbrev pub low : ℕ → ℕ
+low w = w % 256
+
+abbrev pub high : ℕ → ℕ
+high w = w / 256
+
+abbrev pub directionNumber : Direction → ℕ
+directionNumber Right = 0
+directionNumber Left = 1
+directionNumber Up = 2
+directionNumber Down = 3
+
+unfoldable pub savedBytes : Controller → List ℕ
+savedBytes c =
+    let r = c .registers in
+    let s = r .system in
+    let b = r .blocks in
+    -- 0 to 3
+    1 ∷ flag (r .asleep) ∷ code (c .pending .command) ∷ c .pending .place
+    -- 4 to 8
+    ∷ flag (s .iv) ∷ flag (s .ws) ∷ flag (s .m2) ∷ flag (s .m0) ∷ flag (s .wf)
+    -- 9 to 15
+    ∷ s .fx .0 ∷ s .fy .0 ∷ s .cr .0 ∷ s .tcr .0 ∷ s .lf .0 ∷ low (s .ap) ∷ high (s .ap)
+    -- 16 to 18
+    ∷ flag (r .display .on) ∷ r .display .fp ∷ r .display .fc
+    -- 19 to 28
+    ∷ low (b .sad1) ∷ high (b .sad1) ∷ b .sl1 .0 ∷ low (b .sad2) ∷ high (b .sad2) ∷ b .sl2 .0
+    ∷ low (b .sad3) ∷ high (b .sad3) ∷ low (b .sad4) ∷ high (b .sad4)
+    -- 29 to 35
+    ∷ r .form .crx .0 ∷ flag (r .form .cm) ∷ r .form .cry .0
+    ∷ flag (r .overlay .ov) ∷ flag (r .overlay .dm2) ∷ flag (r .overlay .dm1) ∷ r .overlay .mx
+    -- 36 to 42
+    ∷ low (r .cgram) ∷ high (r .cgram) ∷ r .hdot ∷ r .grey
+    ∷ low (r .cursor .address) ∷ high (r .cursor .address) ∷ directionNumber (r .cursor .direction)
+    -- 43 to 47
+    ∷ 0 ∷ 0 ∷ 0 ∷ 0 ∷ 0 ∷ []

@@ -1,0 +1,133 @@
+// The exported calls.
+use crate::saved::is_saved;
+use crate::saved::read;
+use crate::saved::write;
+use model::Controller;
+use registers::Answer;
+use registers::ReadAnswer;
+ghost use Prim.Native.Nat.{ℕ};
+ghost use mathlib.Core.List.{List};
+ghost use mathlib.Core.Path.{_≡_};
+ghost use Rattle.registers.specs.Refusals.{reply, readReply};
+ghost use Rattle.row.specs.Rows.{RowOutcome};
+ghost use Rattle.model.specs.Calls.{command as commandCall, write as writeCall, read as readCall};
+ghost use Rattle.exports.specs.Calls.{left, answerOf, later, resetCalled, called, writesCalled, rowCalled, rowLeft};
+
+fn number(a: Answer) -> u32
+    ensures { λ r. ⌜ r ≡ answerOf (reply a) ⌝ }
+{
+    match a {
+        Answer::Accepted => 0,
+        Answer::Refused(r) => r.number() as u32,
+    }
+}
+
+fn read_number(a: ReadAnswer) -> u32
+    ensures { λ r. ⌜ r ≡ answerOf (readReply a) ⌝ }
+{
+    match a {
+        ReadAnswer::Value(v) => 256 * v as u32,
+        ReadAnswer::Refused(r) => r.number() as u32,
+    }
+}
+
+// The later of two refusals: n, or last where n is none.
+fn later(last: u32, n: u32) -> u32
+    ensures { λ r. ⌜ r ≡ later last n ⌝ }
+{
+    if n == 0 { last } else { n }
+}
+
+#[no_mangle]
+pub extern "C" fn exports_reset(controller: &mut [u8]) -> u32
+    ensures { λ r. ⌜ ((memory : List ℕ) → left r (now (controller .exit)) memory ≡ resetCalled (now (controller .entry)) memory) ⌝ }
+{
+    if controller.len() != 48 {
+        return 255;
+    }
+    write(Controller::reset(), controller);
+    0
+}
+
+#[no_mangle]
+pub extern "C" fn exports_command_write(controller: &mut [u8], byte: u8) -> u32
+    ensures { λ r. ⌜ ((memory : List ℕ) → left r (now (controller .exit)) memory ≡ called (now (controller .entry)) memory (commandCall byte)) ⌝ }
+{
+    if is_saved(controller) {
+        let c = read(controller);
+        let w = c.command_write(byte);
+        write(w.controller, controller);
+        let a = w.answer;
+        return number(a);
+    }
+    255
+}
+
+#[no_mangle]
+pub extern "C" fn exports_data_write(controller: &mut [u8], memory: &mut [u8], byte: u8) -> u32
+    ensures { λ r. ⌜ left r (now (controller .exit)) (now (memory .exit)) ≡ called (now (controller .entry)) (now (memory .entry)) (writeCall byte) ⌝ }
+{
+    if is_saved(controller) {
+        let c = read(controller);
+        let w = c.data_write(memory, byte);
+        write(w.controller, controller);
+        let a = w.answer;
+        return number(a);
+    }
+    255
+}
+
+#[no_mangle]
+pub extern "C" fn exports_data_read(controller: &mut [u8], memory: &[u8]) -> u32
+    ensures { λ r. ⌜ left r (now (controller .exit)) (now (memory .entry)) ≡ called (now (controller .entry)) (now (memory .entry)) readCall ⌝ }
+{
+    if is_saved(controller) {
+        let c = read(controller);
+        let w = c.data_read(memory);
+        write(w.controller, controller);
+        let a = w.answer;
+        return read_number(a);
+    }
+    255
+}
+
+// Data writes, one after the other; the number of the last refusal, 0 where there is none.
+#[no_mangle]
+pub extern "C" fn exports_data_writes(controller: &mut [u8], memory: &mut [u8], bytes: &[u8]) -> u32
+    ensures { λ r. ⌜ left r (now (controller .exit)) (now (memory .exit)) ≡ writesCalled (now (controller .entry)) (now (memory .entry)) (now (bytes .entry)) ⌝ }
+{
+    if is_saved(controller) {
+        let mut c = read(controller);
+        let mut last: u32 = 0;
+        let mut i: usize = 0;
+        while i < bytes.len() {
+            let w = c.data_write(memory, bytes[i]);
+            c = w.controller;
+            let a = w.answer;
+            last = later(last, number(a));
+            i += 1;
+        }
+        write(c, controller);
+        return last;
+    }
+    255
+}
+
+#[no_mangle]
+pub extern "C" fn exports_row(
+    controller: &[u8],
+    memory: &[u8],
+    font: &[u8],
+    frame: u32,
+    row: u32,
+    dots: &mut [u8],
+) -> u32
+    ensures { λ r. ⌜ rowLeft r (now (dots .exit)) ≡ rowCalled (now (controller .entry)) (now (memory .entry)) (now (font .entry)) frame row (now (dots .entry)) ⌝ }
+{
+    if is_saved(controller) {
+        let c = read(controller);
+        let a = c.row(memory, font, frame, row, dots);
+        return number(a);
+    }
+    255
+}

@@ -1,12 +1,11 @@
 //! Data bytes into memory: records of the library's data writes, beside a copy of the same bytes.
 
-use crate::timing::nanoseconds;
+use crate::timing::{nanoseconds, unknown};
 use exported::{calls, saved};
 use reference::commands::MWRITE;
 use reference::model::Controller;
 use reference::refusals::MEMORY_SIZE;
 use reference::registers::{Direction, Registers};
-use std::hint::black_box;
 use support::random::Random;
 
 /// A record of data writes: how many, which way the cursor moves, and from where. It never leaves memory.
@@ -59,24 +58,24 @@ pub struct Times {
     pub copy: f64,
 }
 
-/// Some hundred thousand bytes a round.
-const BYTES: usize = 400_000;
+/// Bytes in a round at least: few, so that a sample is too short to be cut in two by other work.
+const BYTES: usize = 10_000;
 
 pub fn measure(record: &Record) -> Times {
-    let repeats = BYTES / record.length;
+    let repeats = (BYTES + record.length - 1) / record.length;
     let (bytes, start) = (record.bytes(), saved::write(&record.controller()));
     let mut memory = vec![0; MEMORY_SIZE];
     let ours = nanoseconds(|| {
         for _ in 0..repeats {
             let mut controller = start.clone();
-            record.send(&mut controller, black_box(&mut memory), black_box(&bytes));
-            black_box(controller);
+            record.send(&mut controller, unknown(&mut memory), unknown(&bytes));
+            unknown(controller);
         }
     });
     let copy = nanoseconds(|| {
         for _ in 0..repeats {
-            memory[..record.length].copy_from_slice(black_box(&bytes));
-            black_box(&mut memory);
+            memory[..record.length].copy_from_slice(unknown(&bytes));
+            unknown(&mut memory);
         }
     });
     let all = (repeats * record.length) as f64;

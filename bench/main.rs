@@ -22,14 +22,18 @@ fn main() -> ExitCode {
     let words: Vec<String> = std::env::args().skip(1).collect();
     let words: Vec<&str> = words.iter().map(String::as_str).collect();
     let outcome = match words[..] {
-        ["check"] => check::check(),
-        ["measure"] => measure::print(),
-        ["table", panel, folder, bench] => table::print(panel, folder, bench, None),
-        ["table", panel, folder, bench, other] => table::print(panel, folder, bench, Some(other)),
+        ["check"] => Ok(check::check()),
+        ["measure"] => {
+            measure::print();
+            Ok(true)
+        }
+        ["table", panel, folder, bench] => table::print(panel, folder, bench, None).map(|()| true),
+        ["table", panel, folder, bench, other] => table::print(panel, folder, bench, Some(other)).map(|()| true),
         _ => Err("usage: bench check, bench measure, or bench table PANEL FOLDER BENCH [OTHER]".to_string()),
     };
     match outcome {
-        Ok(()) => ExitCode::SUCCESS,
+        Ok(true) => ExitCode::SUCCESS,
+        Ok(false) => ExitCode::FAILURE,
         Err(message) => {
             eprintln!("{}", message);
             ExitCode::FAILURE

@@ -1,6 +1,6 @@
 //! The program on whole files: instructions by callgrind, and seconds beside `cat`.
 
-use crate::timing::{median, nanoseconds};
+use crate::timing::nanoseconds;
 use std::fs::{self, File};
 use std::path::{Path, PathBuf};
 use std::process::{Command, Stdio};
@@ -33,15 +33,16 @@ impl Program {
         Some(self.instructions(longer)? - self.instructions(shorter)?)
     }
 
-    /// Seconds for a file, from a file to a file, and seconds for `cat` to copy it: medians of turns.
+    /// Seconds for a file, from a file to a file, and seconds for `cat` to copy it. The fastest of some turns each: a run
+    /// takes longer than other work leaves the machine alone.
     pub fn seconds(&self, bus: &[u8]) -> Result<(f64, f64), String> {
         fs::write(self.folder.join("bus"), bus).map_err(|error| error.to_string())?;
-        let (mut ours, mut cat) = (vec![], vec![]);
-        for _ in 0..9 {
-            ours.push(self.run(&self.panel)?);
-            cat.push(self.run(Path::new("cat"))?);
+        let (mut ours, mut cat) = (f64::INFINITY, f64::INFINITY);
+        for _ in 0..15 {
+            ours = self.run(&self.panel)?.min(ours);
+            cat = self.run(Path::new("cat"))?.min(cat);
         }
-        Ok((median(ours), median(cat)))
+        Ok((ours, cat))
     }
 
     fn run(&self, program: &Path) -> Result<f64, String> {

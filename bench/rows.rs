@@ -1,9 +1,8 @@
 //! Rows: the library's beside those of the reference, which composes one dot at a time, and beside filling the buffer.
 
 use crate::setups::Setup;
-use crate::timing::nanoseconds;
+use crate::timing::{nanoseconds, unknown};
 use exported::{calls, saved};
-use std::hint::black_box;
 
 /// Times in nanoseconds a dot.
 pub struct Times {
@@ -12,32 +11,38 @@ pub struct Times {
     pub fill: f64,
 }
 
-/// How often a frame is filled in a round: filling is over too soon for the clock.
-const FILLS: usize = 20;
+/// Each round takes one of so many bands of a frame: a sample is then too short to be cut in two by other work.
+const BANDS: u32 = 8;
 
-/// One round: a frame each way, one after the other.
-pub fn measure(setup: &Setup) -> Times {
+/// How often a band is filled in a round: filling is over too soon for the clock.
+const FILLS: usize = 100;
+
+/// One round: a band of a frame each way, one after the other.
+pub fn measure(setup: &Setup, round: u32) -> Times {
     let (width, rows) = setup.size();
-    let dots = width as f64 * f64::from(rows);
+    let height = rows / BANDS;
+    let first = round % BANDS * height;
+    let band = || first..first + height;
+    let dots = width as f64 * f64::from(height);
     let controller = saved::write(&setup.controller);
     let mut buffer = vec![0; width];
     let ours = nanoseconds(|| {
-        for row in 0..rows {
-            calls::row(black_box(&controller), &setup.memory, &setup.font, 0, row, &mut buffer);
-            black_box(&buffer);
+        for row in band() {
+            calls::row(unknown(&controller), &setup.memory, &setup.font, 0, row, &mut buffer);
+            unknown(&buffer);
         }
     });
     let one_dot_at_a_time = nanoseconds(|| {
-        for row in 0..rows {
+        for row in band() {
             // That the row is accepted is seen by the check.
-            let _ = black_box(&setup.controller).row(&setup.memory, &setup.font, 0, row, &mut buffer);
-            black_box(&buffer);
+            let _ = unknown(&setup.controller).row(&setup.memory, &setup.font, 0, row, &mut buffer);
+            unknown(&buffer);
         }
     });
     let fill = nanoseconds(|| {
-        for row in 0..FILLS * rows as usize {
-            buffer.fill(black_box(row as u8));
-            black_box(&buffer);
+        for turn in 0..FILLS * height as usize {
+            buffer.fill(unknown(turn as u8));
+            unknown(&buffer);
         }
     });
     Times { ours: ours / dots, one_dot_at_a_time: one_dot_at_a_time / dots, fill: fill / dots / FILLS as f64 }

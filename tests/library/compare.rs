@@ -68,8 +68,9 @@ fn reference_call(kept: &mut Kept, font: &[u8], call: &Call, buffer: &mut [u8]) 
         kept.controller = saved::write(&Controller::reset());
         return 0;
     }
-    let Some(mut controller) = saved::read(&kept.controller) else {
-        return NO_CONTROLLER;
+    let mut controller = match saved::read(&kept.controller) {
+        Some(controller) => controller,
+        None => return NO_CONTROLLER,
     };
     let number = |answer: Result<(), u8>| answer.err().map_or(0, u32::from);
     let memory = &mut kept.memory;

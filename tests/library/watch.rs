@@ -11,12 +11,11 @@ use support::counts::Counts;
 
 pub fn call(before: &Kept, font: &[u8], call: &Call, answer: u32, after: &Kept, counts: &mut Counts) {
     let number = (answer % 256) as u8;
-    let Some(controller) = saved::read(&before.controller) else {
-        return match (call, before.controller.len()) {
-            (Call::Reset, saved::LENGTH) => counts.hit("reset of bytes that are no controller", &[]),
-            (_, saved::LENGTH) => counts.hit("another format", &[]),
-            _ => counts.hit("a controller of another length", &[]),
-        };
+    let controller = match (saved::read(&before.controller), call, before.controller.len()) {
+        (Some(controller), _, _) => controller,
+        (None, Call::Reset, saved::LENGTH) => return counts.hit("reset of bytes that are no controller", &[]),
+        (None, _, saved::LENGTH) => return counts.hit("another format", &[]),
+        (None, _, _) => return counts.hit("a controller of another length", &[]),
     };
     counts.hit("answer #", &[number]);
     match call {
@@ -102,7 +101,10 @@ fn tested_row(controller: &Controller, request: &RowRequest, counts: &mut Counts
     let registers = controller.registers.in_layout();
     let tests = tests_of_row(&registers, request);
     let mut applying = tests.iter().filter(|(_, applies)| *applies).map(|(number, _)| *number);
-    let Some(first) = applying.next() else { return };
+    let first = match applying.next() {
+        Some(first) => first,
+        None => return,
+    };
     for later in applying {
         counts.hit("refusal # before #, both apply", &[first, later]);
     }

@@ -73,13 +73,17 @@ pub fn run(bus: &[u8], font: &[u8]) -> String {
     let mut good = 0;
     while !rest.is_empty() {
         let number = good + 1;
-        let Some((record, after)) = next_record(rest) else {
-            lines.push_str(&format!("bad {}\n", number));
-            break;
-        };
-        lines.push_str(&carry_out(&mut machine, number, record, font));
-        good = number;
-        rest = after;
+        match next_record(rest) {
+            Some((record, after)) => {
+                lines.push_str(&carry_out(&mut machine, number, record, font));
+                good = number;
+                rest = after;
+            }
+            None => {
+                lines.push_str(&format!("bad {}\n", number));
+                break;
+            }
+        }
     }
     lines.push_str(&format!("end {}\n", good));
     lines

@@ -31,9 +31,7 @@ impl Controller {
 
     pub fn command_write(&mut self, code: u8) -> Result<(), u8> {
         self.end_pending();
-        let Some(command) = command_of(code) else {
-            return Err(2);
-        };
+        let command = command_of(code).ok_or(2)?;
         let r = &mut self.registers;
         if r.asleep && code != SYSTEM_SET {
             return Err(5);

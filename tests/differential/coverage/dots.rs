@@ -9,8 +9,8 @@ use support::counts::Counts;
 /// Watches a dot; hands back what its layers give before the cursor is inverted into them.
 pub fn watch(picture: &Picture, layers: &Layers, x: u32, row: u32, counts: &mut Counts) -> [u8; 3] {
     let mut plain = [0; 3];
-    for (layer, block) in layers.blocks.iter().enumerate() {
-        let Some(block) = *block else { continue };
+    let blocks = layers.blocks.iter().enumerate().filter_map(|(layer, block)| block.map(|block| (layer, block)));
+    for (layer, block) in blocks {
         let stored = picture.stored_dot(block, x, row);
         if stored != 0 {
             let code = flashing_code(picture.registers.fp, block.number);

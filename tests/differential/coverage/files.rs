@@ -20,9 +20,12 @@ pub fn watch_file(bus: &[u8], font: &[u8], printed: &str, counts: &mut Counts) {
     let mut rest = bus;
     let mut number = 0;
     while !rest.is_empty() {
-        let Some((record, after)) = next_record(rest) else {
-            bad_record(rest, counts);
-            break;
+        let (record, after) = match next_record(rest) {
+            Some(found) => found,
+            None => {
+                bad_record(rest, counts);
+                break;
+            }
         };
         number += 1;
         match number {

@@ -11,9 +11,12 @@ pub fn watch(controller: &Controller, memory: usize, font: usize, counts: &mut C
     let request = RowRequest { memory, font, row: 0, buffer: registers.width() as usize };
     let tests = tests_of_row(&registers, &request);
     let mut applying = tests.iter().filter(|(_, applies)| *applies).map(|(number, _)| *number);
-    let Some(first) = applying.next() else {
-        accepted(&registers, counts);
-        return true;
+    let first = match applying.next() {
+        Some(first) => first,
+        None => {
+            accepted(&registers, counts);
+            return true;
+        }
     };
     for later in applying {
         counts.hit("refusal # before #, both apply", &[first, later]);

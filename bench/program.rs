@@ -38,7 +38,7 @@ impl Program {
     pub fn seconds(&self, bus: &[u8]) -> Result<(f64, f64), String> {
         fs::write(self.folder.join("bus"), bus).map_err(|error| error.to_string())?;
         let (mut ours, mut cat) = (f64::INFINITY, f64::INFINITY);
-        for _ in 0..15 {
+        for _ in 0..25 {
             ours = self.run(&self.panel)?.min(ours);
             cat = self.run(Path::new("cat"))?.min(cat);
         }

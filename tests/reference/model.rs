@@ -30,6 +30,7 @@ impl Controller {
     }
 
     pub fn command_write(&mut self, code: u8) -> Result<(), u8> {
+        // Accepted or refused, the byte ends what was pending.
         self.end_pending();
         let command = command_of(code).ok_or(2)?;
         let r = &mut self.registers;

@@ -15,7 +15,7 @@ use Rattle.model.specs.Machine.{Machine, Outcome, machine}
 use Rattle.model.specs.Bus.{dataWrite}
 use Rattle.model.specs.Calls.{BusCall, call}
 use Rattle.exports.specs.Saved.{isSaved, controllerOf, savedBytes}
-use Rattle.exports.specs.Calls.{Left, left, answerOf, saving, onSaved, called, later, writing}
+use Rattle.exports.specs.Calls.{Returned, returned, saving, onSaved, answerOf, afterCall, later, writing}
 
 -- a write and a row answer with the refusal's number alone
 pub number-alone : (a : Answer) → answerOf (reply a) ≡ reply a .refusal
@@ -23,14 +23,14 @@ number-alone Accepted = refl
 number-alone (Refused r) = omega arith
 
 -- what is done on the controller that was read
-pub on-saved : (s memory : List ℕ) (f : Machine → Left) {k : Controller} {l : Left}
-    → isSaved s ≡ true → k ≡ controllerOf s → l ≡ f (machine k memory) → l ≡ onSaved s memory f
+pub on-saved : (s memory : List ℕ) (f : Machine → Returned) {k : Controller} {r : Returned}
+    → isSaved s ≡ true → k ≡ controllerOf s → r ≡ f (machine k memory) → r ≡ onSaved s memory f
 on-saved s memory f is e h = h ∙ rw (is, e)
 
 -- a call on the controller that was read, answered and saved
 pub call-saved : (s memory : List ℕ) (c : BusCall) {k k′ : Controller} {a : Reply} {s′ memory′ : List ℕ} {n : ℕ}
     → isSaved s ≡ true → k ≡ controllerOf s → record { machine = machine k′ memory′; reply = a } ≡ call (machine k memory) c
-    → s′ ≡ savedBytes k′ → n ≡ answerOf a → left n s′ memory′ ≡ called s memory c
+    → s′ ≡ savedBytes k′ → n ≡ answerOf a → returned n s′ memory′ ≡ afterCall s memory c
 call-saved s memory c is e o w n =
     on-saved s memory (λ m. saving (answerOf (call m c .reply)) (call m c .machine)) is e (rw (w, n) (ap (λ (x : Outcome). saving (answerOf (x .reply)) (x .machine)) o))
 

@@ -1,5 +1,5 @@
--- Saved controllers: what is read of what was saved.
-use Prim.Native.Nat.{ℕ, _+_, _*_, _/_, _%_}
+-- Saved controllers: laws on their bytes, and that reading undoes saving.
+use Prim.Native.Nat.{ℕ, _+_, _*_}
 use mathlib.Core.Bool.{Bool, true, false, _&&_}
 use mathlib.Core.List.{List, _++_, append-nil}
 use mathlib.Core.Path.{_≡_, refl, _∙_}
@@ -12,6 +12,7 @@ use Rattle.choice.specs.Choice.{_=?_}
 use Rattle.registers.proofs.Codes.{of-code}
 use Rattle.registers.specs.declared.Direction.{Direction}
 use Rattle.registers.specs.declared.Direction.the-variants.{Right, Left, Up, Down}
+use Rattle.registers.specs.Parameters.{directionOf}
 use Rattle.model.specs.declared.Controller.{Controller}
 use Rattle.exports.specs.Saved.{isSaved, flag, low, high, directionNumber, directionNumbered, savedBytes, controllerOf}
 
@@ -40,7 +41,7 @@ word-read : (w : ℕ) → low w + 256 * high w ≡ w
 word-read w = omega arith
 
 direction-read : (d : Direction) → directionNumbered (directionNumber d) ≡ d
-unfolding directionNumbered
+unfolding directionNumbered directionOf
 direction-read Right = refl
 direction-read Left = refl
 direction-read Up = refl

@@ -1,9 +1,9 @@
--- A saved controller: 48 bytes, words low byte first, a flag 0 or 1. Bytes 43 to 47 are 0 and kept for later.
+-- A controller as 48 bytes: words low byte first, a flag 0 or 1.
 use Prim.Native.Nat.{ℕ, _+_, _*_, _/_, _%_}
 use mathlib.Core.Bool.{Bool, _&&_}
 use mathlib.Core.List.{List, [], _∷_}
 use lib.ListN.{length, getD}
-use Rattle.choice.specs.Choice.{if_then_else_, _=?_}
+use Rattle.choice.specs.Choice.{if_then_else_, _<?_, _=?_}
 use Rattle.registers.specs.declared.Direction.{Direction}
 use Rattle.registers.specs.declared.Direction.the-variants.{Right, Left, Up, Down}
 use Rattle.registers.specs.declared.Code.{Code}
@@ -12,29 +12,30 @@ use Rattle.registers.specs.declared.Blocks.{Blocks}
 use Rattle.registers.specs.declared.Registers.{Registers}
 use Rattle.registers.specs.Commands.{commandOf, code}
 use Rattle.registers.specs.Counts.{codeOf}
+use Rattle.registers.specs.Parameters.{directionOf}
 use Rattle.model.specs.declared.Controller.{Controller}
-
--- the length, and the format in byte 0
-unfoldable pub isSaved : List ℕ → Bool
-isSaved s = length s =? 48 && getD s 0 0 =? 1
 
 -- Reading. What is outside its layout is read as 0: a flag above 1, a direction above 3, a pending code that is no command's
 
 abbrev pub byteAt : List ℕ → ℕ → ℕ
 byteAt s i = getD s i 0
 
+-- 48 bytes whose format is 1
+unfoldable pub isSaved : List ℕ → Bool
+isSaved s = length s =? 48 && byteAt s 0 =? 1
+
 abbrev pub flagAt : List ℕ → ℕ → Bool
-flagAt s i = getD s i 0 =? 1
+flagAt s i = byteAt s i =? 1
 
 abbrev pub codeAt : List ℕ → ℕ → Code
-codeAt s i = codeOf (getD s i 0)
+codeAt s i = codeOf (byteAt s i)
 
 abbrev pub wordAt : List ℕ → ℕ → ℕ
-wordAt s i = getD s i 0 + 256 * getD s (i + 1) 0
+wordAt s i = byteAt s i + 256 * byteAt s (i + 1)
 
 -- in the order of 4C to 4F
 unfoldable pub directionNumbered : ℕ → Direction
-directionNumbered n = if n =? 1 then Left else if n =? 2 then Up else if n =? 3 then Down else Right
+directionNumbered n = if n <? 4 then directionOf (0x4C + n) else Right
 
 abbrev pub systemOf : List ℕ → System
 systemOf s =
@@ -81,7 +82,7 @@ registersOf s =
 unfoldable pub controllerOf : List ℕ → Controller
 controllerOf s = record { registers = registersOf s; pending = record { command = commandOf (byteAt s 2); place = byteAt s 3 } }
 
--- Saving. A pending command is saved as the first code of its row, 0 for none
+-- Saving. A pending command is the first code of its row of the command table, 0 where there is none
 
 abbrev pub flag : Bool → ℕ
 flag b = if b then 1 else 0
@@ -103,22 +104,31 @@ savedBytes c =
     let r = c .registers in
     let s = r .system in
     let b = r .blocks in
-    -- 0 to 3
+    -- 0: format, asleep, pending command, its place
     1 ∷ flag (r .asleep) ∷ code (c .pending .command) ∷ c .pending .place
-    -- 4 to 8
+    -- 4: IV, W/S, M2, M0, WF
     ∷ flag (s .iv) ∷ flag (s .ws) ∷ flag (s .m2) ∷ flag (s .m0) ∷ flag (s .wf)
-    -- 9 to 15
-    ∷ s .fx .0 ∷ s .fy .0 ∷ s .cr .0 ∷ s .tcr .0 ∷ s .lf .0 ∷ low (s .ap) ∷ high (s .ap)
-    -- 16 to 18
+    -- 9: FX, FY, C/R, TC/R, L/F
+    ∷ s .fx .0 ∷ s .fy .0 ∷ s .cr .0 ∷ s .tcr .0 ∷ s .lf .0
+    -- 14: AP
+    ∷ low (s .ap) ∷ high (s .ap)
+    -- 16: D, FP, FC
     ∷ flag (r .display .on) ∷ r .display .fp ∷ r .display .fc
-    -- 19 to 28
-    ∷ low (b .sad1) ∷ high (b .sad1) ∷ b .sl1 .0 ∷ low (b .sad2) ∷ high (b .sad2) ∷ b .sl2 .0
+    -- 19: SAD1, SL1
+    ∷ low (b .sad1) ∷ high (b .sad1) ∷ b .sl1 .0
+    -- 22: SAD2, SL2
+    ∷ low (b .sad2) ∷ high (b .sad2) ∷ b .sl2 .0
+    -- 25: SAD3, SAD4
     ∷ low (b .sad3) ∷ high (b .sad3) ∷ low (b .sad4) ∷ high (b .sad4)
-    -- 29 to 35
+    -- 29: CRX, CM, CRY
     ∷ r .form .crx .0 ∷ flag (r .form .cm) ∷ r .form .cry .0
+    -- 32: OV, DM2, DM1, MX
     ∷ flag (r .overlay .ov) ∷ flag (r .overlay .dm2) ∷ flag (r .overlay .dm1) ∷ r .overlay .mx
-    -- 36 to 42
-    ∷ low (r .cgram) ∷ high (r .cgram) ∷ r .hdot ∷ r .grey
+    -- 36: CGRAM ADR
+    ∷ low (r .cgram) ∷ high (r .cgram)
+    -- 38: HDOT SCR, grey code
+    ∷ r .hdot ∷ r .grey
+    -- 40: cursor, direction
     ∷ low (r .cursor .address) ∷ high (r .cursor .address) ∷ directionNumber (r .cursor .direction)
-    -- 43 to 47
+    -- 43: kept for later
     ∷ 0 ∷ 0 ∷ 0 ∷ 0 ∷ 0 ∷ []

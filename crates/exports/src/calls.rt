@@ -1,4 +1,5 @@
-// The exported calls.
+// The exported calls. Each answers with the number of the refusal, 0 where there is none; or with 255 where the bytes are no
+// saved controller, and then it changes nothing. A data read answers with its value too, times 256.
 use crate::saved::is_saved;
 use crate::saved::read;
 use crate::saved::write;
@@ -9,9 +10,8 @@ ghost use Prim.Native.Nat.{ℕ};
 ghost use mathlib.Core.List.{List};
 ghost use mathlib.Core.Path.{_≡_};
 ghost use Rattle.registers.specs.Refusals.{reply, readReply};
-ghost use Rattle.row.specs.Rows.{RowOutcome};
-ghost use Rattle.model.specs.Calls.{command as commandCall, write as writeCall, read as readCall};
-ghost use Rattle.exports.specs.Calls.{left, answerOf, later, resetCalled, called, writesCalled, rowCalled, rowLeft};
+ghost use Rattle.model.specs.Calls.{command, write, read};
+ghost use Rattle.exports.specs.Calls.{returned, answerOf, later, afterReset, afterCall, afterWrites, afterRow, rowReturned};
 
 fn number(a: Answer) -> u32
     ensures { λ r. ⌜ r ≡ answerOf (reply a) ⌝ }
@@ -31,16 +31,16 @@ fn read_number(a: ReadAnswer) -> u32
     }
 }
 
-// The later of two refusals: n, or last where n is none.
-fn later(last: u32, n: u32) -> u32
-    ensures { λ r. ⌜ r ≡ later last n ⌝ }
+// The last answer that is a refusal.
+fn later(last: u32, answer: u32) -> u32
+    ensures { λ r. ⌜ r ≡ later last answer ⌝ }
 {
-    if n == 0 { last } else { n }
+    if answer == 0 { last } else { answer }
 }
 
 #[no_mangle]
 pub extern "C" fn exports_reset(controller: &mut [u8]) -> u32
-    ensures { λ r. ⌜ ((memory : List ℕ) → left r (now (controller .exit)) memory ≡ resetCalled (now (controller .entry)) memory) ⌝ }
+    ensures { λ r. ⌜ ((memory : List ℕ) → returned r (now (controller .exit)) memory ≡ afterReset (now (controller .entry)) memory) ⌝ }
 {
     if controller.len() != 48 {
         return 255;
@@ -51,7 +51,7 @@ pub extern "C" fn exports_reset(controller: &mut [u8]) -> u32
 
 #[no_mangle]
 pub extern "C" fn exports_command_write(controller: &mut [u8], byte: u8) -> u32
-    ensures { λ r. ⌜ ((memory : List ℕ) → left r (now (controller .exit)) memory ≡ called (now (controller .entry)) memory (commandCall byte)) ⌝ }
+    ensures { λ r. ⌜ ((memory : List ℕ) → returned r (now (controller .exit)) memory ≡ afterCall (now (controller .entry)) memory (command byte)) ⌝ }
 {
     if is_saved(controller) {
         let c = read(controller);
@@ -65,7 +65,7 @@ pub extern "C" fn exports_command_write(controller: &mut [u8], byte: u8) -> u32
 
 #[no_mangle]
 pub extern "C" fn exports_data_write(controller: &mut [u8], memory: &mut [u8], byte: u8) -> u32
-    ensures { λ r. ⌜ left r (now (controller .exit)) (now (memory .exit)) ≡ called (now (controller .entry)) (now (memory .entry)) (writeCall byte) ⌝ }
+    ensures { λ r. ⌜ returned r (now (controller .exit)) (now (memory .exit)) ≡ afterCall (now (controller .entry)) (now (memory .entry)) (write byte) ⌝ }
 {
     if is_saved(controller) {
         let c = read(controller);
@@ -79,7 +79,7 @@ pub extern "C" fn exports_data_write(controller: &mut [u8], memory: &mut [u8], b
 
 #[no_mangle]
 pub extern "C" fn exports_data_read(controller: &mut [u8], memory: &[u8]) -> u32
-    ensures { λ r. ⌜ left r (now (controller .exit)) (now (memory .entry)) ≡ called (now (controller .entry)) (now (memory .entry)) readCall ⌝ }
+    ensures { λ r. ⌜ returned r (now (controller .exit)) (now (memory .entry)) ≡ afterCall (now (controller .entry)) (now (memory .entry)) read ⌝ }
 {
     if is_saved(controller) {
         let c = read(controller);
@@ -91,21 +91,22 @@ pub extern "C" fn exports_data_read(controller: &mut [u8], memory: &[u8]) -> u32
     255
 }
 
-// Data writes, one after the other; the number of the last refusal, 0 where there is none.
+// Data writes, one after the other. The answer is that of the last one that is refused, 0 where none is.
 #[no_mangle]
 pub extern "C" fn exports_data_writes(controller: &mut [u8], memory: &mut [u8], bytes: &[u8]) -> u32
-    ensures { λ r. ⌜ left r (now (controller .exit)) (now (memory .exit)) ≡ writesCalled (now (controller .entry)) (now (memory .entry)) (now (bytes .entry)) ⌝ }
+    ensures { λ r. ⌜ returned r (now (controller .exit)) (now (memory .exit)) ≡ afterWrites (now (controller .entry)) (now (memory .entry)) (now (bytes .entry)) ⌝ }
 {
     if is_saved(controller) {
         let mut c = read(controller);
         let mut last: u32 = 0;
         let mut i: usize = 0;
         while i < bytes.len() {
-            let w = c.data_write(memory, bytes[i]);
+            let b = bytes[i];
+            i += 1;
+            let w = c.data_write(memory, b);
             c = w.controller;
             let a = w.answer;
             last = later(last, number(a));
-            i += 1;
         }
         write(c, controller);
         return last;
@@ -122,7 +123,7 @@ pub extern "C" fn exports_row(
     row: u32,
     dots: &mut [u8],
 ) -> u32
-    ensures { λ r. ⌜ rowLeft r (now (dots .exit)) ≡ rowCalled (now (controller .entry)) (now (memory .entry)) (now (font .entry)) frame row (now (dots .entry)) ⌝ }
+    ensures { λ r. ⌜ rowReturned r (now (dots .exit)) ≡ afterRow (now (controller .entry)) (now (memory .entry)) (now (font .entry)) frame row (now (dots .entry)) ⌝ }
 {
     if is_saved(controller) {
         let c = read(controller);

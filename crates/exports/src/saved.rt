@@ -35,11 +35,10 @@ fn word(low: u8, high: u8) -> u16
 fn direction(n: u8) -> Direction
     ensures { λ r. ⌜ r ≡ directionNumbered n ⌝ }
 {
-    match n {
-        1 => Direction::Left,
-        2 => Direction::Up,
-        3 => Direction::Down,
-        _ => Direction::Right,
+    if n < 4 {
+        Direction::of(0x4C + n)
+    } else {
+        Direction::Right
     }
 }
 

@@ -1,6 +1,6 @@
 //! The program on whole files: instructions by callgrind, and seconds beside `cat`.
 
-use crate::timing::nanoseconds;
+use crate::timing::{median, processor_seconds_of_children};
 use std::fs::{self, File};
 use std::path::{Path, PathBuf};
 use std::process::{Command, Stdio};
@@ -33,29 +33,28 @@ impl Program {
         Some(self.instructions(longer)? - self.instructions(shorter)?)
     }
 
-    /// Seconds for a file, from a file to a file, and seconds for `cat` to copy it. The fastest of some turns each: a run
-    /// takes longer than other work leaves the machine alone.
+    /// Seconds for a file, from a file to a file, and seconds for `cat` to copy it: the medians of some turns.
     pub fn seconds(&self, bus: &[u8]) -> Result<(f64, f64), String> {
         fs::write(self.folder.join("bus"), bus).map_err(|error| error.to_string())?;
-        let (mut ours, mut cat) = (f64::INFINITY, f64::INFINITY);
-        for _ in 0..25 {
-            ours = self.run(&self.panel)?.min(ours);
-            cat = self.run(Path::new("cat"))?.min(cat);
+        let (mut ours, mut cat) = (vec![], vec![]);
+        for _ in 0..11 {
+            ours.push(self.run(&self.panel)?);
+            cat.push(self.run(Path::new("cat"))?);
         }
-        Ok((ours, cat))
+        Ok((median(ours), median(cat)))
     }
 
+    /// The processor's time for one run: the clock on the wall would count other work too.
     fn run(&self, program: &Path) -> Result<f64, String> {
         let told = |error: std::io::Error| format!("{}: {}", program.display(), error);
         let stdin = File::open(self.folder.join("bus")).map_err(told)?;
         let stdout = File::create(self.folder.join("out")).map_err(told)?;
-        let mut command = Command::new(program);
-        command.current_dir(&self.folder).stdin(stdin).stdout(stdout);
-        let mut status = None;
-        let time = nanoseconds(|| status = Some(command.status()));
-        match status {
-            Some(Ok(status)) if status.success() => Ok(time / 1e9),
-            _ => Err(format!("{} failed", program.display())),
+        let before = processor_seconds_of_children();
+        let status = Command::new(program).current_dir(&self.folder).stdin(stdin).stdout(stdout).status().map_err(told)?;
+        if status.success() {
+            Ok(processor_seconds_of_children() - before)
+        } else {
+            Err(format!("{} ended with {}", program.display(), status))
         }
     }
 }

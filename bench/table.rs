@@ -119,7 +119,7 @@ fn program(program: &Program) -> Result<Vec<Line>, String> {
     };
     let seconds = |what: &str, bus: &[u8]| {
         let (ours, cat) = program.seconds(bus)?;
-        Ok::<Line, String>(Line { what: what.to_string(), unit: "seconds", ours: Some(ours), base: Some(cat), ..Line::default() })
+        Ok::<Line, String>(Line { what: what.to_string(), unit: "processor seconds", ours: Some(ours), base: Some(cat), ..Line::default() })
     };
     let writes_of = |count: usize, direction: u8| writes(graphics, count, direction);
     Ok(vec![

@@ -1,5 +1,5 @@
 #!/usr/bin/env python3
-"""Makes the example bus files and their font, in this folder.
+"""Makes the example bus files and their font, in this folder or in the one that is named: make.py [FOLDER]
 
 page.bus    a text page over a graphics frame, with a message strip in the third screen block
 grey.bus    a picture of four shades: a gradient behind a box that has priority over it
@@ -7,6 +7,7 @@ worked.bus  the worked example of the rules: two rows of graphics, and a byte th
 """
 import os
 import struct
+import sys
 
 GLYPHS = {  # 5 x 7, a number a row
     "A": "0E 11 11 1F 11 11 11", "B": "1E 11 11 1E 11 11 1E", "D": "1E 11 11 11 11 11 1E",
@@ -74,9 +75,9 @@ def worked():
 
 
 def main():
-    here = os.path.dirname(os.path.abspath(__file__))
+    folder = sys.argv[1] if len(sys.argv) > 1 else os.path.dirname(os.path.abspath(__file__))
     for name, data in (("font.bin", font()), ("page.bus", page()), ("grey.bus", grey()), ("worked.bus", worked())):
-        with open(os.path.join(here, name), "wb") as file:
+        with open(os.path.join(folder, name), "wb") as file:
             file.write(data)
 
 

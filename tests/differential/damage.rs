@@ -1,8 +1,8 @@
 //! Damage to a bus file: bad records, cut records, bytes left over (01, 'Bus file and its program').
 
 use crate::disturb;
-use crate::random::Random;
-use crate::records::Records;
+use support::random::Random;
+use support::records::Records;
 use reference::commands::{CSRR, MWRITE};
 
 /// Damages the file, and perhaps adds good records, which must then have no effect.

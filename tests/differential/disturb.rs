@@ -1,7 +1,7 @@
 //! Disturbances on the bus: bad, short and long parameter lists, unknown codes, sleep, reads and walks of the cursor.
 
-use crate::random::Random;
-use crate::records::Records;
+use support::random::Random;
+use support::records::Records;
 use reference::commands::*;
 
 /// Frame numbers at the edges of the periods 4, 32 and 64, and large ones.

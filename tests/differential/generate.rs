@@ -2,10 +2,10 @@
 
 use crate::damage::damage;
 use crate::disturb::{disturb, send, show};
-use crate::limits;
-use crate::random::Random;
-use crate::records::Records;
-use crate::setup::Setup;
+use support::limits;
+use support::random::Random;
+use support::records::Records;
+use support::setup::Setup;
 use reference::commands::*;
 
 pub struct Case {

@@ -3,26 +3,23 @@
 //!     differential PANEL [FIRST_SEED [SEEDS]]   compares; by default seeds 1 to 2,000
 //!     differential --write SEED BUS FONT        writes the bus file and the font of a seed to the files BUS and FONT
 //!
-//! A difference is told by its seed and the first line that differs. Then come the counts of what the reference reached,
-//! one a line. From 2,000 seeds on each count of `required.rs` must not be 0. The last line is 'N passed, M failed': N
+//! A difference is told by its seed and the first line that differs. Then come the counts of what the files reached, one a
+//! line. From 2,000 seeds on each count of `required.rs` must not be 0. The last line is 'N passed, M failed': N
 //! counts files that compared equal and required counts that aren't 0.
 
+mod coverage;
 mod damage;
 mod disturb;
 mod generate;
-mod limits;
 mod program;
-mod random;
-mod records;
 mod required;
-mod setup;
 
 use generate::generate;
 use program::{write_case, Folder, Input};
 use reference::busfile;
-use reference::coverage::{label, Coverage};
 use std::path::Path;
 use std::process::ExitCode;
+use support::counts::Counts;
 
 const SEEDS: u64 = 2_000;
 
@@ -53,10 +50,10 @@ fn write_seed(seed: u64, bus: &Path, font: &Path) -> Result<bool, String> {
 fn compare(program: &Path, first: u64, seeds: u64) -> Result<bool, String> {
     let program = program.canonicalize().map_err(|error| format!("{}: {}", program.display(), error))?;
     let folder = Folder::create().map_err(|error| format!("temporary folder: {}", error))?;
-    let mut cover = Coverage::default();
+    let mut counts = Counts::default();
     let (mut passed, mut failed) = (0, 0);
     for seed in first..first + seeds {
-        match compare_seed(&program, &folder.path, seed, &mut cover) {
+        match compare_seed(&program, &folder.path, seed, &mut counts) {
             Ok(()) => passed += 1,
             Err(difference) => {
                 failed += 1;
@@ -64,30 +61,25 @@ fn compare(program: &Path, first: u64, seeds: u64) -> Result<bool, String> {
             }
         }
     }
-    for (event, count) in cover.counts() {
-        println!("{:8} {}", count, event);
-    }
+    counts.print();
     if seeds >= SEEDS {
-        for (template, numbers) in required::required() {
-            if cover.count(template, &numbers) > 0 {
-                passed += 1;
-            } else {
-                failed += 1;
-                println!("not reached: {}", label(template, &numbers));
-            }
-        }
+        let (reached, missed) = counts.reached(&required::required());
+        passed += reached;
+        failed += missed;
     }
     println!("{} passed, {} failed", passed, failed);
     Ok(failed == 0)
 }
 
-fn compare_seed(program: &Path, folder: &Path, seed: u64, cover: &mut Coverage) -> Result<(), String> {
+fn compare_seed(program: &Path, folder: &Path, seed: u64, counts: &mut Counts) -> Result<(), String> {
     let case = generate(seed);
     write_case((&folder.join("bus"), &case.bus), (&folder.join("font.bin"), case.font.as_deref()))
         .map_err(|error| error.to_string())?;
     let input = if seed % 4 == 0 { Input::Pipe } else { Input::File };
     let printed = program::run(program, folder, input)?;
-    let expected = busfile::run(&case.bus, &case.font.unwrap_or_default(), cover);
+    let font = case.font.unwrap_or_default();
+    let expected = busfile::run(&case.bus, &font);
+    coverage::watch_file(&case.bus, &font, &expected, counts);
     if printed == expected.as_bytes() {
         Ok(())
     } else {

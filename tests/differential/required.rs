@@ -1,6 +1,7 @@
-//! What a run must have reached, in the words of the reference's counts.
+//! What a run must have reached, in the words of `coverage`.
 
 use reference::commands::*;
+use support::counts::Event;
 
 /// Events that need no number.
 const PLAIN: [&str; 72] = [
@@ -55,7 +56,7 @@ const PLAIN: [&str; 72] = [
     "[CRX] = [FX] accepted",
     "what would get 14 accepted with W/S 1",
     "what would get 15 accepted with FC 0",
-    "row accepted with D 0",
+    "frame accepted with D 0",
     "row 255 shown",
     // Bus.
     "data with no command pending gets 3",
@@ -105,12 +106,12 @@ const WITH_NUMBER: [(&str, &[u8]); 37] = [
     ("cursor with FC 3 at frame # of 64", &[44, 45]),
     ("text code fetched at 8000h or above, M0 #", &[0, 1]),
     ("glyph of CG RAM with M2 #", &[0, 1]),
-    ("row shown at [FX] #", &[1, 2, 3, 4, 5, 6, 7, 8]),
+    ("frame shown at [FX] #", &[1, 2, 3, 4, 5, 6, 7, 8]),
     ("10 at [FX] #", &[9, 16]),
     ("11 at # bits", &[1, 2]),
     ("width 640 accepted at # bits", &[1, 2]),
     ("14 with OV #", &[0, 1]),
-    ("row accepted asleep with D #", &[0, 1]),
+    ("frame accepted asleep with D #", &[0, 1]),
     ("cursor moved by direction $", &[CSRDIR_RIGHT, CSRDIR_LEFT, CSRDIR_UP, CSRDIR_DOWN]),
     ("cursor wrapped by direction $", &[CSRDIR_RIGHT, CSRDIR_LEFT, CSRDIR_UP, CSRDIR_DOWN]),
     ("CSRR read #", &[1, 2]),
@@ -141,8 +142,8 @@ const FIXED_BITS: [(u8, u8, &[u8]); 8] = [
     (1, GRAY_SCALE, &[7, 6, 5, 4, 3, 2]),
 ];
 
-pub fn required() -> Vec<(&'static str, Vec<u8>)> {
-    let mut all: Vec<(&'static str, Vec<u8>)> = PLAIN.iter().map(|template| (*template, vec![])).collect();
+pub fn required() -> Vec<Event> {
+    let mut all: Vec<Event> = PLAIN.iter().map(|template| (*template, vec![])).collect();
     for (template, numbers) in WITH_NUMBER {
         all.extend(numbers.iter().map(|number| (template, vec![*number])));
     }

@@ -24,9 +24,19 @@ pub const CODES: [u8; 18] = [
     CGRAM_ADR, HDOT_SCR, GRAY_SCALE, CSRW, CSRR, MWRITE, MREAD,
 ];
 
-/// Data writes that a command other than MWRITE takes.
-pub fn parameter_count(code: u8) -> u8 {
+/// The command that a code begins, named by its first code: DISP OFF and ON pend as one, and so do the four CSRDIR.
+pub fn command_of(code: u8) -> Option<u8> {
     match code {
+        DISP_OFF | DISP_ON => Some(DISP_OFF),
+        CSRDIR_RIGHT..=CSRDIR_DOWN => Some(CSRDIR_RIGHT),
+        _ if CODES.contains(&code) => Some(code),
+        _ => None,
+    }
+}
+
+/// Data writes that a command other than MWRITE takes.
+pub fn parameter_count(command: u8) -> u8 {
+    match command {
         SYSTEM_SET => 8,
         SCROLL => 10,
         CSRFORM | CGRAM_ADR | CSRW => 2,
@@ -35,18 +45,9 @@ pub fn parameter_count(code: u8) -> u8 {
     }
 }
 
-/// Data writes or reads that a command other than MWRITE and MREAD takes.
-pub fn list_length(code: u8) -> u8 {
-    if code == CSRR {
-        2
-    } else {
-        parameter_count(code)
-    }
-}
-
 /// The layouts of the command table; a bit outside its layout isn't allowed.
-pub fn parameter_allowed(code: u8, place: u8, value: u8) -> bool {
-    match (code, place) {
+pub fn parameter_allowed(command: u8, place: u8, value: u8) -> bool {
+    match (command, place) {
         (SYSTEM_SET, 0) => value & 0b1101_0010 == 0b0001_0000,
         (SYSTEM_SET, 1) => value & 0b0111_0000 == 0,
         (SYSTEM_SET, 2) => value & 0b1111_0000 == 0,

@@ -4,6 +4,15 @@ fn on_in_period(frame: u32, period: u32) -> bool {
     10 * (frame % period) < 7 * period
 }
 
+/// The two bits of FP that rule a block.
+pub fn flashing_code(fp: u8, block: u8) -> u8 {
+    match block {
+        1 => fp & 3,
+        3 => fp >> 4 & 3,
+        _ => fp >> 2 & 3,
+    }
+}
+
 /// Blocks: FP.
 pub fn block_is_lit(code: u8, frame: u32) -> bool {
     match code {

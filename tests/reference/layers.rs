@@ -1,10 +1,9 @@
 //! Which block supplies each layer of a row (01, 'Blocks and layers of a row').
 
-use super::coverage::Coverage;
 use super::registers::{count, Registers};
 
 /// A block, 1 to 4, and the row that its own rows count from.
-#[derive(Clone, Copy)]
+#[derive(Clone, Copy, PartialEq, Debug)]
 pub struct Block {
     pub number: u8,
     pub first_row: u32,
@@ -20,59 +19,62 @@ fn block(number: u8, first_row: u32) -> Option<Block> {
     Some(Block { number, first_row })
 }
 
-pub fn layers_of_row(r: &Registers, row: u32, cover: &mut Coverage) -> Layers {
-    if r.ws {
-        return halves(r, row, cover);
-    }
-    if r.ov && r.dm_is_11() {
-        cover.hit("three layers", &[]);
-        if row > u32::from(r.sl1.min(r.sl2)) {
-            cover.hit("three layers on a row past SL1 or SL2", &[]);
-        }
-        return Layers { count: 3, blocks: [block(1, 0), block(2, 0), block(3, 0)] };
-    }
-    let ov = [u8::from(r.ov)];
-    let (first, second) = if r.sl1 <= r.sl2 {
-        let split = count(r.sl1);
-        let before = row < split;
-        match (r.sl1 == r.sl2, before) {
-            (false, true) => cover.hit("two layers, SL1 < SL2, before the split, OV #", &ov),
-            (false, false) => cover.hit("two layers, SL1 < SL2, after the split, OV #", &ov),
-            (true, true) => cover.hit("two layers, SL1 = SL2, before the split, OV #", &ov),
-            (true, false) => cover.hit("two layers, SL1 = SL2, after the split, OV #", &ov),
-        }
-        (if before { block(1, 0) } else { block(3, split) }, block(2, 0))
-    } else {
-        let split = count(r.sl2);
-        if row < split {
-            cover.hit("two layers, SL1 > SL2, before the split", &[]);
-            (block(1, 0), block(2, 0))
-        } else {
-            cover.hit("two layers, SL1 > SL2, after the split", &[]);
-            (block(1, 0), block(3, split))
-        }
-    };
+fn two(first: Option<Block>, second: Option<Block>) -> Layers {
     Layers { count: 2, blocks: [first, second, None] }
 }
 
-/// W/S = 1: SL1 and SL2 blank rows of the upper half only.
-fn halves(r: &Registers, row: u32, cover: &mut Coverage) -> Layers {
-    let ov = [u8::from(r.ov)];
-    if r.ov && r.dm_is_11() {
-        cover.hit("W/S 1 with OV 1 and DM 11", &[]);
+pub fn layers_of_row(r: &Registers, row: u32) -> Layers {
+    if r.ws {
+        halves(r, row)
+    } else if r.ov && r.dm_is_11() {
+        Layers { count: 3, blocks: [block(1, 0), block(2, 0), block(3, 0)] }
+    } else if r.sl1 <= r.sl2 {
+        let split = count(r.sl1);
+        two(if row < split { block(1, 0) } else { block(3, split) }, block(2, 0))
+    } else {
+        let split = count(r.sl2);
+        two(block(1, 0), if row < split { block(2, 0) } else { block(3, split) })
     }
+}
+
+/// W/S = 1: SL1 and SL2 blank rows of the upper half only.
+fn halves(r: &Registers, row: u32) -> Layers {
     let middle = r.rows() / 2;
     if row >= middle {
-        cover.hit("W/S 1, lower half, OV #", &ov);
-        return Layers { count: 2, blocks: [block(3, middle), block(4, middle), None] };
+        return two(block(3, middle), block(4, middle));
     }
-    let first = if row < count(r.sl1) { block(1, 0) } else { None };
-    let second = if row < count(r.sl2) { block(2, 0) } else { None };
-    match (first.is_some(), second.is_some()) {
-        (true, true) => cover.hit("W/S 1, upper half, both layers, OV #", &ov),
-        (false, true) => cover.hit("W/S 1, upper half, layer 1 blanked, OV #", &ov),
-        (true, false) => cover.hit("W/S 1, upper half, layer 2 blanked, OV #", &ov),
-        (false, false) => cover.hit("W/S 1, upper half, both blanked, OV #", &ov),
+    two(
+        if row < count(r.sl1) { block(1, 0) } else { None },
+        if row < count(r.sl2) { block(2, 0) } else { None },
+    )
+}
+
+/// Block 1 is text if DM1 = 0, block 3 if DM2 = 0; blocks 2 and 4 are graphics.
+pub fn is_text(r: &Registers, block: Block) -> bool {
+    match block.number {
+        1 => !r.dm1,
+        3 => !r.dm2,
+        _ => false,
     }
-    Layers { count: 2, blocks: [first, second, None] }
+}
+
+// Addresses are handed out as sums, whose low 16 bits are the address.
+
+/// The sum of a byte of graphics in a column.
+pub fn graphics_sum(r: &Registers, block: Block, row: u32, column: u32) -> u32 {
+    start(r, block) + (row - block.first_row) * u32::from(r.ap) + column
+}
+
+/// The sum of the code of a text cell.
+pub fn code_sum(r: &Registers, block: Block, row: u32, column: u32) -> u32 {
+    start(r, block) + (row - block.first_row) / count(r.fy) * u32::from(r.ap) + column
+}
+
+/// The row of its glyphs that a row of text shows.
+pub fn glyph_row(r: &Registers, block: Block, row: u32) -> u32 {
+    (row - block.first_row) % count(r.fy)
+}
+
+fn start(r: &Registers, block: Block) -> u32 {
+    u32::from(r.sad[usize::from(block.number) - 1])
 }

@@ -1,14 +1,18 @@
 //! An independent model of the controller and of the program that reads bus files, written plainly and one dot at a time
-//! from 01 and the readings of docs/DECISIONS.md, without the proved code or its definitions. The differential test
-//! compares the program with it.
+//! from 01 and the readings of docs/DECISIONS.md, without the proved code or its definitions. The program, and the
+//! library that is linked with Rust, are compared with it.
+//!
+//! A caller may hand in any controller, memory, font, row number and buffer.
 
 pub mod busfile;
 pub mod commands;
-pub mod coverage;
+pub mod cursor;
 pub mod flashing;
+pub mod glyphs;
 pub mod layers;
-pub mod limits;
 pub mod mixing;
 pub mod model;
+pub mod parameters;
+pub mod refusals;
 pub mod registers;
 pub mod row;

@@ -1,7 +1,6 @@
 //! Prints what the program prints: reads a bus file on standard input and `font.bin` in the current folder.
 
 use reference::busfile;
-use reference::coverage::Coverage;
 use std::io::{self, Read, Write};
 
 fn main() -> io::Result<()> {
@@ -9,5 +8,5 @@ fn main() -> io::Result<()> {
     io::stdin().read_to_end(&mut bus)?;
     // A font that cannot be read counts as one of length 0.
     let font = std::fs::read("font.bin").unwrap_or_default();
-    io::stdout().write_all(busfile::run(&bus, &font, &mut Coverage::default()).as_bytes())
+    io::stdout().write_all(busfile::run(&bus, &font).as_bytes())
 }

@@ -1,256 +1,146 @@
 //! The controller on its bus: command writes, data writes, data reads (01, 'Reset, commands and parameters'), and rows.
-//! Refusals 1, 16 and 17 are missing: the program's own memory, row numbers and buffers always fit.
+//! An error is the number of a refusal.
 
 use super::commands::*;
-use super::coverage::Coverage;
-use super::limits;
+use super::parameters;
+use super::refusals::{self, RowRequest, MEMORY_SIZE};
 use super::registers::{Direction, Registers};
 use super::row::Picture;
 
-pub const MEMORY_SIZE: usize = 32_768;
+/// Stands for no command where one may be pending.
+pub const NONE: u8 = 0;
 
-#[derive(Clone, Copy)]
-struct Pending {
-    code: u8,
-    place: u8,
-}
-
+#[derive(Clone, Copy, PartialEq, Debug)]
 pub struct Controller {
     pub registers: Registers,
-    pending: Option<Pending>,
-    memory: Vec<u8>,
+    /// The pending command, by its first code, or NONE.
+    pub pending: u8,
+    /// How much of its list has been taken.
+    pub place: u8,
 }
 
 impl Controller {
     pub fn reset() -> Controller {
-        Controller { registers: Registers::reset(), pending: None, memory: vec![0; MEMORY_SIZE] }
+        Controller { registers: Registers::reset(), pending: NONE, place: 0 }
     }
 
-    pub fn command_write(&mut self, code: u8, cover: &mut Coverage) -> Result<(), u8> {
-        let replaced = self.pending.take();
-        if !CODES.contains(&code) {
-            if self.registers.asleep {
-                cover.hit("asleep: an unknown code gets 2", &[]);
-            }
-            return Err(2);
-        }
-        if self.registers.asleep && code != SYSTEM_SET {
-            cover.hit("asleep: command $ gets 5", &[code]);
+    fn end_pending(&mut self) {
+        self.pending = NONE;
+        self.place = 0;
+    }
+
+    pub fn command_write(&mut self, code: u8) -> Result<(), u8> {
+        // Accepted or refused, the byte ends what was pending.
+        self.end_pending();
+        let command = command_of(code).ok_or(2)?;
+        let r = &mut self.registers;
+        if r.asleep && code != SYSTEM_SET {
             return Err(5);
         }
-        cover.hit("command $ accepted", &[code]);
-        if let Some(Pending { code: old, place }) = replaced {
-            if place > 0 && place < list_length(old) {
-                cover.hit("list of $ cut short by another command", &[old]);
-            }
-        }
-        self.pending = Some(Pending { code, place: 0 });
+        self.pending = command;
         match code {
-            SLEEP_IN => self.registers.asleep = true,
-            DISP_OFF => self.registers.d = false,
-            DISP_ON => self.registers.d = true,
-            CSRDIR_RIGHT => self.registers.direction = Direction::Right,
-            CSRDIR_LEFT => self.registers.direction = Direction::Left,
-            CSRDIR_UP => self.registers.direction = Direction::Up,
-            CSRDIR_DOWN => self.registers.direction = Direction::Down,
+            SLEEP_IN => r.asleep = true,
+            DISP_OFF => r.d = false,
+            DISP_ON => r.d = true,
+            CSRDIR_RIGHT => r.direction = Direction::Right,
+            CSRDIR_LEFT => r.direction = Direction::Left,
+            CSRDIR_UP => r.direction = Direction::Up,
+            CSRDIR_DOWN => r.direction = Direction::Down,
             _ => {}
         }
         Ok(())
     }
 
-    pub fn data_write(&mut self, value: u8, cover: &mut Coverage) -> Result<(), u8> {
-        let Pending { code, place } = match self.wanting() {
-            Some(pending) => pending,
-            None => {
-                self.cover_nothing_wanted(cover);
-                return Err(3);
-            }
-        };
-        if code == MWRITE {
-            return self.memory_write(value, cover);
+    pub fn data_write(&mut self, memory: &mut [u8], value: u8) -> Result<(), u8> {
+        if memory.len() != MEMORY_SIZE {
+            return Err(1);
         }
-        if !parameter_allowed(code, place, value) {
-            cover_bad_parameter(code, place, value, cover);
-            if self.registers.asleep {
-                cover.hit("asleep: P1 of SYSTEM SET gets 4 and doesn't wake", &[]);
-            }
-            self.pending = None;
+        if !self.wants_data() {
+            return Err(3);
+        }
+        if self.pending == MWRITE {
+            return self.memory_write(memory, value);
+        }
+        if !parameter_allowed(self.pending, self.place, value) {
+            self.end_pending();
             return Err(4);
         }
-        self.store_parameter(code, place, value);
-        self.pending = Some(Pending { code, place: place + 1 });
-        if code == SYSTEM_SET && place == 0 && self.registers.asleep {
-            cover.hit("asleep: P1 of SYSTEM SET wakes", &[]);
+        parameters::store(&mut self.registers, self.pending, self.place, value);
+        if self.pending == SYSTEM_SET && self.place == 0 {
             self.registers.asleep = false;
         }
+        self.place += 1;
         Ok(())
     }
 
-    /// The pending command if it wants a data write.
-    fn wanting(&self) -> Option<Pending> {
-        let pending = self.pending?;
-        let asleep_bars = self.registers.asleep && pending.code != SYSTEM_SET;
-        let wants = pending.code == MWRITE || pending.place < parameter_count(pending.code);
-        if wants && !asleep_bars {
-            Some(pending)
-        } else {
-            None
-        }
+    /// Whether a parameter or memory byte is wanted. Asleep, only SYSTEM SET wants any.
+    pub fn wants_data(&self) -> bool {
+        let asleep_bars = self.registers.asleep && self.pending != SYSTEM_SET;
+        !asleep_bars && (self.pending == MWRITE || self.place < parameter_count(self.pending))
     }
 
-    fn cover_nothing_wanted(&self, cover: &mut Coverage) {
-        if self.registers.asleep {
-            cover.hit("asleep: data gets 3", &[]);
-        }
-        match self.pending {
-            None => cover.hit("data with no command pending gets 3", &[]),
-            Some(Pending { code, .. }) => cover.hit("data past the list of $ gets 3", &[code]),
-        }
-    }
-
-    fn store_parameter(&mut self, code: u8, place: u8, value: u8) {
-        let r = &mut self.registers;
-        let bit = |number: u8| value >> number & 1 == 1;
-        match (code, place) {
-            (SYSTEM_SET, 0) => {
-                r.ws = bit(3);
-                r.m2 = bit(2);
-                r.m0 = bit(0);
-            }
-            (SYSTEM_SET, 1) => r.fx = value & 0x0F,
-            (SYSTEM_SET, 2) => r.fy = value & 0x0F,
-            (SYSTEM_SET, 3) => r.cr = value,
-            (SYSTEM_SET, 4) => r.tcr = value,
-            (SYSTEM_SET, 5) => r.lf = value,
-            (SYSTEM_SET, 6) => set_low(&mut r.ap, value),
-            (SYSTEM_SET, 7) => set_high(&mut r.ap, value),
-            (DISP_OFF, 0) | (DISP_ON, 0) => {
-                r.fc = value & 3;
-                r.fp = [value >> 2 & 3, value >> 4 & 3, value >> 6 & 3];
-            }
-            (SCROLL, 0) => set_low(&mut r.sad[0], value),
-            (SCROLL, 1) => set_high(&mut r.sad[0], value),
-            (SCROLL, 2) => r.sl1 = value,
-            (SCROLL, 3) => set_low(&mut r.sad[1], value),
-            (SCROLL, 4) => set_high(&mut r.sad[1], value),
-            (SCROLL, 5) => r.sl2 = value,
-            (SCROLL, 6) => set_low(&mut r.sad[2], value),
-            (SCROLL, 7) => set_high(&mut r.sad[2], value),
-            (SCROLL, 8) => set_low(&mut r.sad[3], value),
-            (SCROLL, 9) => set_high(&mut r.sad[3], value),
-            (CSRFORM, 0) => r.crx = value & 0x0F,
-            (CSRFORM, 1) => {
-                r.cm = bit(7);
-                r.cry = value & 0x0F;
-            }
-            (OVLAY, 0) => {
-                r.ov = bit(4);
-                r.dm2 = bit(3);
-                r.dm1 = bit(2);
-                r.mx = value & 3;
-            }
-            (CGRAM_ADR, 0) => set_low(&mut r.cgram, value),
-            (CGRAM_ADR, 1) => set_high(&mut r.cgram, value),
-            (HDOT_SCR, 0) => {}
-            (GRAY_SCALE, 0) => r.grey = value,
-            (CSRW, 0) => set_low(&mut r.cursor, value),
-            (CSRW, 1) => set_high(&mut r.cursor, value),
-            _ => unreachable!("a place of the list of a command"),
-        }
-    }
-
-    fn memory_write(&mut self, value: u8, cover: &mut Coverage) -> Result<(), u8> {
+    fn memory_write(&mut self, memory: &mut [u8], value: u8) -> Result<(), u8> {
         let address = usize::from(self.registers.cursor);
-        self.move_cursor(cover);
+        self.registers.cursor = next_cursor(&self.registers);
         if address >= MEMORY_SIZE {
-            cover.hit("memory write at 8000h or above gets 7", &[]);
             return Err(7);
         }
-        if address == MEMORY_SIZE - 1 {
-            cover.hit("memory write at 7FFFh", &[]);
-        }
-        self.memory[address] = value;
+        memory[address] = value;
         Ok(())
     }
 
-    pub fn data_read(&mut self, cover: &mut Coverage) -> Result<u8, u8> {
-        if self.registers.asleep {
-            cover.hit("asleep: a read gets 6", &[]);
-            return Err(6);
+    /// The value read; a refused read gives the value 0.
+    pub fn data_read(&mut self, memory: &[u8]) -> Result<u8, u8> {
+        if memory.len() != MEMORY_SIZE {
+            return Err(1);
         }
         match self.pending {
-            Some(Pending { code: MREAD, .. }) => self.memory_read(cover),
-            Some(Pending { code: CSRR, place }) if place < 2 => {
-                cover.hit("CSRR read #", &[place + 1]);
-                self.pending = Some(Pending { code: CSRR, place: place + 1 });
-                Ok(self.registers.cursor.to_le_bytes()[usize::from(place)])
+            _ if self.registers.asleep => Err(6),
+            MREAD => self.memory_read(memory),
+            CSRR if self.place < 2 => {
+                let value = self.registers.cursor.to_le_bytes()[usize::from(self.place)];
+                self.place += 1;
+                Ok(value)
             }
-            Some(Pending { code, .. }) => {
-                cover.hit("read with $ pending gets 6", &[code]);
-                Err(6)
-            }
-            None => {
-                cover.hit("read with no command pending gets 6", &[]);
-                Err(6)
-            }
+            _ => Err(6),
         }
     }
 
-    fn memory_read(&mut self, cover: &mut Coverage) -> Result<u8, u8> {
+    fn memory_read(&mut self, memory: &[u8]) -> Result<u8, u8> {
         let address = usize::from(self.registers.cursor);
-        self.move_cursor(cover);
+        self.registers.cursor = next_cursor(&self.registers);
         if address >= MEMORY_SIZE {
-            cover.hit("memory read at 8000h or above gets 7", &[]);
             return Err(7);
         }
-        if self.memory[address] != 0 {
-            cover.hit("memory read of a byte that isn't 0", &[]);
-        }
-        Ok(self.memory[address])
+        Ok(memory[address])
     }
 
-    fn move_cursor(&mut self, cover: &mut Coverage) {
-        let r = &mut self.registers;
-        let step = match r.direction {
-            Direction::Right => 1,
-            Direction::Left => -1,
-            Direction::Up => -i32::from(r.ap),
-            Direction::Down => i32::from(r.ap),
-        };
-        let sum = i32::from(r.cursor) + step;
-        let wrapped = sum.rem_euclid(65_536);
-        let code = CSRDIR_RIGHT + r.direction as u8;
-        cover.hit("cursor moved by direction $", &[code]);
-        if sum != wrapped {
-            cover.hit("cursor wrapped by direction $", &[code]);
+    /// Fills a lent buffer with the dots of a row, a byte a dot; the buffer of a refused row stands.
+    pub fn row(&self, memory: &[u8], font: &[u8], frame: u32, row: u32, dots: &mut [u8]) -> Result<(), u8> {
+        let registers = self.registers.in_layout();
+        let request = RowRequest { memory: memory.len(), font: font.len(), row, buffer: dots.len() };
+        refusals::of_row(&registers, &request)?;
+        let picture = Picture { registers: &registers, memory, font, frame };
+        for (x, dot) in (0..).zip(dots) {
+            *dot = picture.dot(x, row);
         }
-        r.cursor = wrapped as u16;
+        Ok(())
     }
 
-    /// The dots of a row (01, 'Blocks and layers of a row').
-    pub fn row(&self, number: u32, font: &[u8], frame: u32, cover: &mut Coverage) -> Result<Vec<u8>, u8> {
-        if let Some(refusal) = limits::refusal(&self.registers, font, cover) {
-            return Err(refusal);
-        }
-        let picture = Picture { registers: &self.registers, memory: &self.memory, font, frame };
-        Ok((0..self.registers.width()).map(|x| picture.dot(x, number, cover)).collect())
+    /// Width and rows of a frame.
+    pub fn frame_size(&self) -> (u32, u32) {
+        let registers = self.registers.in_layout();
+        (registers.width(), registers.rows())
     }
 }
 
-fn set_low(word: &mut u16, value: u8) {
-    *word = *word & 0xFF00 | u16::from(value);
-}
-
-fn set_high(word: &mut u16, value: u8) {
-    *word = *word & 0x00FF | u16::from(value) << 8;
-}
-
-/// Counts refusal 4 by the one bit that is wrong, or by the value where a single bit isn't to blame.
-fn cover_bad_parameter(code: u8, place: u8, value: u8, cover: &mut Coverage) {
-    let culprits: Vec<u8> = (0..8).filter(|bit| parameter_allowed(code, place, value ^ 1 << bit)).collect();
-    match culprits.len() {
-        0 => cover.hit("parameter # of $ gets 4 for several bits", &[place + 1, code]),
-        1 => cover.hit("parameter # of $ gets 4 for bit #", &[place + 1, code, culprits[0]]),
-        _ => cover.hit("parameter # of $ gets 4 for its value", &[place + 1, code]),
+/// Where a memory write or read leaves the cursor.
+fn next_cursor(r: &Registers) -> u16 {
+    let cursor = r.cursor;
+    match r.direction {
+        Direction::Right => cursor.wrapping_add(1),
+        Direction::Left => cursor.wrapping_sub(1),
+        Direction::Up => cursor.wrapping_sub(r.ap),
+        Direction::Down => cursor.wrapping_add(r.ap),
     }
 }

@@ -1,6 +1,6 @@
-//! The stored fields of the controller and their state after reset (01, 'Reset, commands and parameters').
+//! The stored fields of the controller (01, 'Reset, commands and parameters').
 
-#[derive(Clone, Copy, PartialEq)]
+#[derive(Clone, Copy, PartialEq, Debug)]
 pub enum Direction {
     Right,
     Left,
@@ -8,13 +8,17 @@ pub enum Direction {
     Down,
 }
 
-/// IV, WF and the HDOT SCR value are missing: nothing reads them (01, 'What the model is').
+/// Every stored field but the pending command, each as wide as a caller may hand it in. IV, WF and the HDOT SCR value are
+/// stored and read by nothing yet.
+#[derive(Clone, Copy, PartialEq, Debug)]
 pub struct Registers {
     pub asleep: bool,
+    pub iv: bool,
     /// W/S of SYSTEM SET.
     pub ws: bool,
     pub m2: bool,
     pub m0: bool,
+    pub wf: bool,
     pub fx: u8,
     pub fy: u8,
     pub cr: u8,
@@ -23,8 +27,8 @@ pub struct Registers {
     pub ap: u16,
     /// D, set by the codes 58 and 59.
     pub d: bool,
-    /// The codes FP1,0, FP3,2 and FP5,4.
-    pub fp: [u8; 3],
+    /// FP5 to FP0.
+    pub fp: u8,
     pub fc: u8,
     /// SAD1 to SAD4.
     pub sad: [u16; 4],
@@ -38,6 +42,7 @@ pub struct Registers {
     pub dm1: bool,
     pub mx: u8,
     pub cgram: u16,
+    pub hdot: u8,
     /// The GRAY SCALE code: 0, 1, 2 mean 1, 2, 4 bits a dot.
     pub grey: u8,
     pub cursor: u16,
@@ -53,9 +58,11 @@ impl Registers {
     pub fn reset() -> Registers {
         Registers {
             asleep: false,
+            iv: false,
             ws: false,
             m2: false,
             m0: false,
+            wf: false,
             fx: 0,
             fy: 0,
             cr: 0,
@@ -63,7 +70,7 @@ impl Registers {
             lf: 0,
             ap: 0,
             d: false,
-            fp: [0; 3],
+            fp: 0,
             fc: 0,
             sad: [0; 4],
             sl1: 0,
@@ -76,11 +83,31 @@ impl Registers {
             dm1: false,
             mx: 0,
             cgram: 0,
+            hdot: 0,
             grey: 0,
             cursor: 0,
             direction: Direction::Right,
         }
     }
+
+    /// The fields as they are read: one outside its layout, or a grey code of 3, is read as 0.
+    pub fn in_layout(&self) -> Registers {
+        let below = |end: u8, field: u8| if field < end { field } else { 0 };
+        Registers {
+            fx: below(16, self.fx),
+            fy: below(16, self.fy),
+            fp: below(64, self.fp),
+            fc: below(4, self.fc),
+            crx: below(16, self.crx),
+            cry: below(16, self.cry),
+            mx: below(4, self.mx),
+            hdot: below(8, self.hdot),
+            grey: below(3, self.grey),
+            ..*self
+        }
+    }
+
+    // What follows is asked of registers in their layout.
 
     /// Bits a dot.
     pub fn bits(&self) -> u32 {

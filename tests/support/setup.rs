@@ -2,6 +2,7 @@
 
 use crate::random::Random;
 use crate::records::Records;
+use reference::busfile::{next_record, Machine, Record};
 use reference::commands::*;
 
 /// How blocks make layers (01, 'Blocks and layers of a row').
@@ -149,6 +150,25 @@ impl Setup {
             records.command(MWRITE, bytes);
         }
         records.word_command(CSRW, self.cursor);
+    }
+
+    /// The reference after all of it.
+    pub fn machine(&self, random: &mut Random) -> Machine {
+        let mut records = Records::default();
+        for (code, list) in self.register_commands(random) {
+            records.command(code, &list);
+        }
+        self.fill_memory(&mut records);
+        let mut machine = Machine::new();
+        let mut rest = &records.bytes[..];
+        while let Some((Record::Command(payload), after)) = next_record(rest) {
+            for (index, byte) in payload.iter().enumerate() {
+                // An area may reach past the end of memory.
+                assert!(matches!(machine.bus_write(index, *byte), Ok(()) | Err(7)), "a set-up is accepted");
+            }
+            rest = after;
+        }
+        machine
     }
 }
 

@@ -1,0 +1,62 @@
+//! Rows: the library's beside those of the reference, which composes one dot at a time, and beside filling the buffer.
+
+use crate::setups::Setup;
+use crate::timing::{nanoseconds, unknown};
+use exported::{calls, saved};
+
+/// Times in nanoseconds a dot.
+pub struct Times {
+    pub ours: f64,
+    pub one_dot_at_a_time: f64,
+    pub fill: f64,
+}
+
+/// Each round takes one of so many bands of a frame: a sample is then too short to be cut in two by other work.
+const BANDS: u32 = 8;
+
+/// How often a band is filled in a round: filling is over too soon for the clock.
+const FILLS: usize = 100;
+
+/// One round: a band of a frame each way, one after the other.
+pub fn measure(setup: &Setup, round: u32) -> Times {
+    let (width, rows) = setup.size();
+    let height = rows / BANDS;
+    let first = round % BANDS * height;
+    let band = || first..first + height;
+    let dots = width as f64 * f64::from(height);
+    let controller = saved::write(&setup.controller);
+    let mut buffer = vec![0; width];
+    let ours = nanoseconds(|| {
+        for row in band() {
+            calls::row(unknown(&controller), &setup.memory, &setup.font, 0, row, &mut buffer);
+            unknown(&buffer);
+        }
+    });
+    let one_dot_at_a_time = nanoseconds(|| {
+        for row in band() {
+            // That the row is accepted is seen by the check.
+            let _ = unknown(&setup.controller).row(&setup.memory, &setup.font, 0, row, &mut buffer);
+            unknown(&buffer);
+        }
+    });
+    let fill = nanoseconds(|| {
+        for turn in 0..FILLS * height as usize {
+            buffer.fill(unknown(turn as u8));
+            unknown(&buffer);
+        }
+    });
+    Times { ours: ours / dots, one_dot_at_a_time: one_dot_at_a_time / dots, fill: fill / dots / FILLS as f64 }
+}
+
+/// Whether both give the same rows, dot for dot, and accept them.
+pub fn agree(setup: &Setup, frame: u32) -> bool {
+    let (width, rows) = setup.size();
+    let controller = saved::write(&setup.controller);
+    (0..rows).all(|row| {
+        // Contents that no row has.
+        let (mut ours, mut theirs) = (vec![0xEE; width], vec![0xDD; width]);
+        let number = calls::row(&controller, &setup.memory, &setup.font, frame, row, &mut ours);
+        let answer = setup.controller.row(&setup.memory, &setup.font, frame, row, &mut theirs);
+        number == 0 && answer == Ok(()) && ours == theirs
+    })
+}

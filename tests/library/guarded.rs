@@ -1,0 +1,47 @@
+//! Bytes that are lent to a call, with guard bytes on both sides that no call may touch.
+
+const GUARD: usize = 64;
+
+pub struct Guarded {
+    bytes: Vec<u8>,
+}
+
+fn guard(place: usize) -> u8 {
+    0xA5 ^ place as u8
+}
+
+impl Guarded {
+    pub fn new(content: &[u8]) -> Guarded {
+        let mut bytes: Vec<u8> = (0..GUARD).map(guard).collect();
+        bytes.extend_from_slice(content);
+        bytes.extend((0..GUARD).map(guard));
+        Guarded { bytes }
+    }
+
+    fn end(&self) -> usize {
+        self.bytes.len() - GUARD
+    }
+
+    pub fn content(&self) -> &[u8] {
+        &self.bytes[GUARD..self.end()]
+    }
+
+    pub fn lent(&mut self) -> &mut [u8] {
+        let end = self.end();
+        &mut self.bytes[GUARD..end]
+    }
+
+    /// What differs from the expected content, or from the guards.
+    pub fn difference(&self, name: &str, expected: &[u8]) -> Result<(), String> {
+        let guards = [&self.bytes[..GUARD], &self.bytes[self.end()..]];
+        if guards.iter().any(|side| (0..GUARD).any(|place| side[place] != guard(place))) {
+            return Err(format!("a byte beside the lent {} was touched", name));
+        }
+        if self.content() == expected {
+            return Ok(());
+        }
+        let place = (0..expected.len()).find(|place| self.content()[*place] != expected[*place]).unwrap_or(0);
+        let (got, wanted) = (self.content()[place], expected[place]);
+        Err(format!("byte {} of the {}: reference {:02X}, library {:02X}", place, name, wanted, got))
+    }
+}

@@ -1,0 +1,73 @@
+//! What a run must have reached, in the words of `watch.rs`. Fields and flags go by their place in the saved form.
+
+use crate::handed_in::*;
+use exported::saved;
+use reference::commands::*;
+use support::counts::Event;
+
+const PLAIN: [&str; 22] = [
+    "reset of bytes that are no controller",
+    "another format",
+    "a controller of another length",
+    "bytes kept for later, written back as 0",
+    "direction above 3 moves right",
+    "pending code of no command wants nothing",
+    "place past the reads of CSRR",
+    "MWRITE at a place that isn't 0",
+    "MREAD of a byte that isn't 0 at a place that isn't 0",
+    "asleep, P1 of SYSTEM SET gets 4",
+    "15 since CRY is read as 0",
+    "16 at row [L/F]",
+    "16 at the last number of 32 bits",
+    "16 where the row modulo 65,536 would pass",
+    "16 where the row modulo 256 would pass",
+    "17 for an empty buffer",
+    "17 for a byte too few",
+    "17 for a byte too many",
+    "row accepted in a dark display",
+    "row with a dot that isn't 0",
+    "row 255 shown",
+    "grey code 3 in a lit row",
+];
+
+/// Commands with parameters, and how many.
+const LISTS: [(u8, u8); 9] = [
+    (SYSTEM_SET, 8), (DISP_OFF, 1), (SCROLL, 10), (CSRFORM, 2), (OVLAY, 1), (CGRAM_ADR, 2), (HDOT_SCR, 1), (GRAY_SCALE, 1), (CSRW, 2),
+];
+
+pub fn required() -> Vec<Event> {
+    let mut all: Vec<Event> = PLAIN.iter().map(|template| (*template, vec![])).collect();
+    let mut each = |template: &'static str, numbers: &mut dyn Iterator<Item = u8>| {
+        all.extend(numbers.map(|number| (template, vec![number])));
+    };
+    each("answer #", &mut (0..=17));
+    each("CSRR read #", &mut (1..=2));
+    for call in ["1 on a data write, wrong memory #", "1 on a data read, wrong memory #", "1 on a row, wrong memory #"] {
+        each(call, &mut (0..5));
+    }
+    each("8, wrong font #", &mut (0..4));
+    each("asleep, P# of SYSTEM SET stored", &mut (1..=8));
+    each("asleep, $ has nothing to read", &mut [CSRR, MREAD].into_iter());
+    each("asleep, $ wants nothing", &mut LISTS.iter().map(|list| list.0).filter(|command| *command != SYSTEM_SET).chain([MWRITE]));
+    each("place past the list of $ wants nothing", &mut LISTS.iter().map(|list| list.0));
+    let fields = || LIMITED.iter().map(|field| field.0 as u8);
+    each("field at # outside its layout in a lit row", &mut fields());
+    each("field at # outside its layout replaced by a parameter", &mut fields());
+    // Nothing reads HDOT SCR; CRY is read as 0 only where FC is 00, or else the row gets 15.
+    let decisive = [FX, FY, FP, FC, CRX, MX, GREY];
+    each("field at # whose low bits would give another row", &mut decisive.iter().map(|field| *field as u8));
+    each("flag at # above 1, written back as 0", &mut saved::FLAGS.iter().map(|flag| *flag as u8));
+    // D above 1 is read as 0, so the display is dark.
+    let seen = saved::FLAGS.iter().filter(|flag| **flag != D);
+    each("flag at # above 1 in a lit row", &mut seen.map(|flag| *flag as u8));
+    for (command, parameters) in LISTS {
+        all.extend((1..=parameters).map(|place| ("parameter # of $ stored", vec![place, command])));
+    }
+    for (first, later) in [(1, 8), (1, 16), (1, 17), (16, 17)] {
+        all.push(("refusal # before #, both apply", vec![first, later]));
+    }
+    for first in 8..=15 {
+        all.extend([16, 17].iter().map(|later| ("refusal # before #, both apply", vec![first, *later])));
+    }
+    all
+}

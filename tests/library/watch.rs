@@ -1,0 +1,163 @@
+//! Counts what the cases reached: the state before a call, the call, the answer, and what it left.
+
+use crate::cases::{Call, WRONG_FONTS, WRONG_MEMORIES};
+use crate::compare::Kept;
+use crate::handed_in::{GREY, LIMITED};
+use exported::saved;
+use reference::commands::*;
+use reference::model::{Controller, NONE};
+use reference::refusals::{tests_of_row, RowRequest};
+use support::counts::Counts;
+
+pub fn call(before: &Kept, font: &[u8], call: &Call, answer: u32, after: &Kept, counts: &mut Counts) {
+    let number = (answer % 256) as u8;
+    let controller = match (saved::read(&before.controller), call, before.controller.len()) {
+        (Some(controller), _, _) => controller,
+        (None, Call::Reset, saved::LENGTH) => return counts.hit("reset of bytes that are no controller", &[]),
+        (None, _, saved::LENGTH) => return counts.hit("another format", &[]),
+        (None, _, _) => return counts.hit("a controller of another length", &[]),
+    };
+    counts.hit("answer #", &[number]);
+    match call {
+        Call::Reset | Call::DataWrites(_) => {}
+        Call::CommandWrite(_) => handed_in_form(before, after, counts),
+        Call::DataWrite(_) => {
+            handed_in_form(before, after, counts);
+            data_write(&controller, before, number, after, counts);
+        }
+        Call::DataRead => data_read(&controller, before, answer, counts),
+        Call::Row { frame, row, length } => {
+            let request = RowRequest { memory: before.memory.len(), font: font.len(), row: *row, buffer: *length };
+            tested_row(&controller, &request, counts);
+            if number == 0 {
+                accepted_row(&controller, before, font, *frame, &request, counts);
+            }
+        }
+    }
+}
+
+fn wrong_memory(length: usize) -> u8 {
+    WRONG_MEMORIES.iter().position(|wrong| *wrong == length).expect("one of the wrong lengths") as u8
+}
+
+/// Bytes outside the saved form, which a call that writes it back mends.
+fn handed_in_form(before: &Kept, after: &Kept, counts: &mut Counts) {
+    for flag in saved::FLAGS {
+        if before.controller[flag] > 1 && after.controller[flag] == 0 {
+            counts.hit("flag at # above 1, written back as 0", &[flag as u8]);
+        }
+    }
+    if before.controller[saved::LATER].iter().any(|byte| *byte != 0) {
+        counts.hit("bytes kept for later, written back as 0", &[]);
+    }
+}
+
+fn data_write(controller: &Controller, before: &Kept, number: u8, after: &Kept, counts: &mut Counts) {
+    let Controller { pending, place, registers } = *controller;
+    let asleep = registers.asleep;
+    let past = pending != MWRITE && place >= parameter_count(pending);
+    match number {
+        1 => counts.hit("1 on a data write, wrong memory #", &[wrong_memory(before.memory.len())]),
+        3 if pending == NONE && before.controller[saved::PENDING] != 0 => counts.hit("pending code of no command wants nothing", &[]),
+        3 if past && !asleep => counts.hit("place past the list of $ wants nothing", &[pending]),
+        3 if !past => counts.hit("asleep, $ wants nothing", &[pending]),
+        4 if asleep && place == 0 => counts.hit("asleep, P1 of SYSTEM SET gets 4", &[]),
+        0 if pending == MWRITE => {
+            if place != 0 {
+                counts.hit("MWRITE at a place that isn't 0", &[]);
+            }
+            if before.controller[saved::DIRECTION] > 3 {
+                counts.hit("direction above 3 moves right", &[]);
+            }
+        }
+        0 => {
+            counts.hit("parameter # of $ stored", &[place + 1, pending]);
+            if asleep {
+                counts.hit("asleep, P# of SYSTEM SET stored", &[place + 1]);
+            }
+            for (at, end) in LIMITED {
+                if before.controller[at] >= end && after.controller[at] < end {
+                    counts.hit("field at # outside its layout replaced by a parameter", &[at as u8]);
+                }
+            }
+        }
+        _ => {}
+    }
+}
+
+fn data_read(controller: &Controller, before: &Kept, answer: u32, counts: &mut Counts) {
+    let Controller { pending, place, registers } = *controller;
+    match (answer % 256, pending) {
+        (1, _) => counts.hit("1 on a data read, wrong memory #", &[wrong_memory(before.memory.len())]),
+        (6, CSRR | MREAD) if registers.asleep => counts.hit("asleep, $ has nothing to read", &[pending]),
+        (6, CSRR) => counts.hit("place past the reads of CSRR", &[]),
+        (0, CSRR) => counts.hit("CSRR read #", &[place + 1]),
+        (0, _) if answer != 0 && place != 0 => counts.hit("MREAD of a byte that isn't 0 at a place that isn't 0", &[]),
+        _ => {}
+    }
+}
+
+fn tested_row(controller: &Controller, request: &RowRequest, counts: &mut Counts) {
+    let registers = controller.registers.in_layout();
+    let tests = tests_of_row(&registers, request);
+    let mut applying = tests.iter().filter(|(_, applies)| *applies).map(|(number, _)| *number);
+    let first = match applying.next() {
+        Some(first) => first,
+        None => return,
+    };
+    for later in applying {
+        counts.hit("refusal # before #, both apply", &[first, later]);
+    }
+    let (width, rows) = controller.frame_size();
+    match first {
+        1 => counts.hit("1 on a row, wrong memory #", &[wrong_memory(request.memory)]),
+        8 => {
+            let index = WRONG_FONTS.iter().position(|wrong| *wrong == request.font).expect("one of the wrong lengths");
+            counts.hit("8, wrong font #", &[index as u8]);
+        }
+        15 if controller.registers.cry >= 16 && registers.crx <= registers.fx => counts.hit("15 since CRY is read as 0", &[]),
+        16 if request.row == rows => counts.hit("16 at row [L/F]", &[]),
+        16 if request.row == u32::MAX => counts.hit("16 at the last number of 32 bits", &[]),
+        16 if request.row % 65_536 < rows => counts.hit("16 where the row modulo 65,536 would pass", &[]),
+        16 if request.row % 256 < rows => counts.hit("16 where the row modulo 256 would pass", &[]),
+        17 if request.buffer == 0 => counts.hit("17 for an empty buffer", &[]),
+        17 if request.buffer + 1 == width as usize => counts.hit("17 for a byte too few", &[]),
+        17 if request.buffer == width as usize + 1 => counts.hit("17 for a byte too many", &[]),
+        _ => {}
+    }
+}
+
+fn accepted_row(controller: &Controller, before: &Kept, font: &[u8], frame: u32, request: &RowRequest, counts: &mut Counts) {
+    if !controller.registers.d || controller.registers.asleep {
+        return counts.hit("row accepted in a dark display", &[]);
+    }
+    let row_of = |bytes: &[u8]| {
+        let mut dots = vec![0; request.buffer];
+        let controller = saved::read(bytes).expect("a saved controller");
+        controller.row(&before.memory, font, frame, request.row, &mut dots).map(|()| dots)
+    };
+    let row = row_of(&before.controller);
+    if row.iter().flatten().any(|dot| *dot != 0) {
+        counts.hit("row with a dot that isn't 0", &[]);
+    }
+    for (at, end) in LIMITED {
+        if before.controller[at] < end {
+            continue;
+        }
+        counts.hit("field at # outside its layout in a lit row", &[at as u8]);
+        let mut low_bits = before.controller.clone();
+        low_bits[at] &= end.next_power_of_two() - 1;
+        if row_of(&low_bits) != row {
+            counts.hit("field at # whose low bits would give another row", &[at as u8]);
+        }
+    }
+    if before.controller[GREY] == 3 {
+        counts.hit("grey code 3 in a lit row", &[]);
+    }
+    for flag in saved::FLAGS.iter().filter(|flag| before.controller[**flag] > 1) {
+        counts.hit("flag at # above 1 in a lit row", &[*flag as u8]);
+    }
+    if request.row == 255 {
+        counts.hit("row 255 shown", &[]);
+    }
+}

@@ -46,6 +46,10 @@ controller registers command place =
 abbrev pub resetController : Controller
 resetController = controller resetRegisters None 0
 
+-- another command pending, at the start of its list
+abbrev pub withPending : Command → Controller → Controller
+withPending command c = controller (c .registers) command 0
+
 -- the pending command ends
 abbrev pub ended : Controller → Controller
-ended c = controller (c .registers) None 0
+ended c = withPending None c

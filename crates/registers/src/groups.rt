@@ -5,7 +5,7 @@ use crate::Display;
 use crate::Overlay;
 use crate::System;
 ghost use mathlib.Core.Path.{_≡_};
-ghost use Rattle.registers.specs.Parameters.{withLow, withHigh, word, storeSystem, storeDisplay, storeBlocks, storeForm, storeOverlay, systemAllows, formAllows};
+ghost use Rattle.registers.specs.Parameters.{withLow, withHigh, storeWord, storeSystem, storeDisplay, storeBlocks, storeForm, storeOverlay, systemAllows, formAllows};
 
 // The two-byte register x with b as its low byte.
 fn with_low(x: u16, b: u8) -> u16
@@ -23,7 +23,7 @@ fn with_high(x: u16, b: u8) -> u16
 
 // The two-byte register x after a parameter of a command that has no other.
 pub fn store_word(x: u16, place: u8, b: u8) -> u16
-    ensures { λ r. ⌜ r ≡ word 0 place b x ⌝ }
+    ensures { λ r. ⌜ r ≡ storeWord 0 place b x ⌝ }
 {
     match place {
         0 => with_low(x, b),

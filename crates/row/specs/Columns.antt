@@ -127,7 +127,7 @@ firstRefusal k =
     else 0
 
 -- n dots are what a byte gives at a grey code
-pub record Room (grey n : ℕ) : Type 0 where
+pub record DotsFit (grey n : ℕ) : Type 0 where
   pub code : grey < 3
   pub one : grey ≡ 0 → n ≤ 8
   pub two : grey ≡ 1 → n ≡ 4

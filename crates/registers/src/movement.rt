@@ -22,7 +22,7 @@ fn back(address: u16, step: u16) -> u16
 
 impl Cursor {
     // The cursor after a memory access.
-    pub fn next(self, ap: u16) -> Cursor
+    fn next(self, ap: u16) -> Cursor
         ensures { λ r. ⌜ r ≡ nextCursor ap self ⌝ }
     {
         let direction = self.direction;

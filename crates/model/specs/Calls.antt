@@ -1,4 +1,5 @@
--- 01, 'The full refresh': lists of calls. Each call gets the controller and the memory that the one before it left.
+-- Reference, 'The full refresh'; 01, 'The full refresh': lists of calls. Each call gets the controller and the memory that the
+-- one before it left.
 use Prim.Native.Nat.{ℕ}
 use mathlib.Core.List.{List, [], _∷_, map}
 use Rattle.registers.specs.Refusals.{Reply}

@@ -1,5 +1,6 @@
--- 01, 'Both sides of each edge': the cases marked *, each computed by the definitions from what a list of calls leaves, from
--- reset beside any memory of 32,768 bytes.
+-- Reference, 'Refusals', 'Commands', 'Memory and cursor', 'Width', 'Glyphs' and 'Flashing'; 01, 'Both sides of each edge': the
+-- cases marked *, each computed by the definitions from what a list of calls leaves, from reset beside any memory of 32,768
+-- bytes.
 use Prim.Native.Nat.{ℕ, _%_}
 use mathlib.Core.List.{List, [], _∷_, _++_}
 use mathlib.Core.Path.{_≡_}

@@ -1,4 +1,5 @@
--- 01, 'What the model is' and 'Reset, commands and parameters': a controller beside its memory, and what a call gives.
+-- Reference, 'Reset'; 01, 'What the model is' and 'Reset, commands and parameters': a controller beside its memory, and what a
+-- call gives.
 use Prim.Native.Nat.{ℕ}
 use mathlib.Core.List.{List}
 use Rattle.registers.specs.declared.Command.{Command}

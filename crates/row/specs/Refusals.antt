@@ -1,4 +1,4 @@
--- 01, 'Refusal numbers': a row tests 1, then 8 to 17 in number order.
+-- Reference, 'Refusals'; 01, 'Refusal numbers': a row tests 1, then 8 to 17 in number order.
 use Prim.Native.Nat.{ℕ, _+_, _%_}
 use mathlib.Core.Bool.{Bool, not, _&&_, _||_}
 use Rattle.registers.specs.declared.Code.{Code}

@@ -1,4 +1,4 @@
--- 01, 'Refusal numbers' and 'Blocks and layers of a row': what asking for a row gives.
+-- Reference, 'Rows'; 01, 'Refusal numbers' and 'Blocks and layers of a row': what asking for a row gives.
 use Prim.Native.Nat.{ℕ}
 use mathlib.Core.List.{List, []}
 use lib.ListN.{length}

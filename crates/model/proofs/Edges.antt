@@ -1,4 +1,4 @@
--- The table of edges holds.
+-- The table of edges holds: one test that is computed over all of it.
 use Prim.Native.Nat.{ℕ}
 use mathlib.Core.Bool.{Bool, true, _&&_}
 use mathlib.Core.List.{List, [], _∷_}
@@ -65,16 +65,18 @@ module _ (memory : List ℕ) (full : length memory ≡ memorySize) where
   allHold [] = true
   allHold (e ∷ es) = holds e && allHold es
 
-  hold : (es : List Edge) → T (allHold es) → All (λ e. observed (e .observation) (call (after (reset memory) (e .before)) (e .last)) ≡ e .expected) es
-  hold [] t = tt
-  hold (e ∷ es) t =
+  -- a table that passes the test holds
+  all-hold : (es : List Edge) → T (allHold es) → All (λ e. observed (e .observation) (call (after (reset memory) (e .before)) (e .last)) ≡ e .expected) es
+  all-hold [] t = tt
+  all-hold (e ∷ es) t =
       let b = both (holds e) (allHold es) t in (
         ap (observed (e .observation)) (call-sized (after (reset memory) (e .before)) (after-size (reset memory) (e .before) ∙ full) (e .last)
             ∙ ap (λ (m : Machine). sizedCall m (e .last)) (after-sized (reset memory) full (e .before)))
             ∙ eqb→eq _ _ (b .0),
-        hold es (b .1),
+        all-hold es (b .1),
       )
 
+-- it computes but for the memory: its length, and the byte that was stored in it
 pub edges-hold : EdgesHold
 unfolding commandOf begin store storeSystem storeDisplay storeBlocks storeForm storeOverlay directionOf withLow withHigh allowed systemAllows formAllows nextAddress ignored commandWrite served writeParameter inLayout field rowAnswer rowRefusal greyMode oddLines layerOrder cursorShape threeLayers width dotsPerColumn isLit flashing isOn glyphOf
-edges-hold memory full = hold memory full edges (rw (getD-set-same memory 0x7FFF 0xA5 0 (omega arith), full) tt)
+edges-hold memory full = all-hold memory full edges (rw (getD-set-same memory 0x7FFF 0xA5 0 (omega arith), full) tt)

@@ -79,4 +79,4 @@ module _ (memory : List ℕ) (full : length memory ≡ memorySize) where
 -- it computes but for the memory: its length, and the byte that was stored in it
 pub edges-hold : EdgesHold
 unfolding commandOf begin store storeSystem storeDisplay storeBlocks storeForm storeOverlay directionOf withLow withHigh allowed systemAllows formAllows nextAddress ignored commandWrite served writeParameter inLayout field rowAnswer rowRefusal greyMode oddLines layerOrder cursorShape threeLayers width dotsPerColumn isLit flashing isOn glyphOf
-edges-hold memory full = all-hold memory full edges (rw (getD-set-same memory 0x7FFF 0xA5 0 (omega arith), full) tt)
+edges-hold memory full = all-hold memory full edges (simp (getD-set-same memory 0x7FFF 0xA5 0 (omega arith), full) tt)

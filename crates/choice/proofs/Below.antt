@@ -10,12 +10,12 @@ abbrev pub allBelow : (ℕ → Bool) → ℕ → Bool
 allBelow f zero = true
 allBelow f (suc n) = f n && allBelow f n
 
+pub both : (a b : Bool) → T (a && b) → T a × T b
+both true b t = (tt, t)
+both false b t = absurd t
+
 pub all-below : (f : ℕ → Bool) (n : ℕ) → T (allBelow f n) → (k : ℕ) → k < n → T (f k)
 all-below f zero t k h = absurd (not-suc-le-zero h)
 all-below f (suc n) t k h =
-    let b = both (f n) t in
+    let b = both (f n) (allBelow f n) t in
     ⊎-elim (λ e. subst (λ (x : ℕ). T (f x)) (sym e) (b .0)) (λ l. all-below f n (b .1) k l) (eq-or-lt-of-le (le-of-suc-le-suc h))
-  where
-    both : (b : Bool) → T (b && allBelow f n) → T b × T (allBelow f n)
-    both true u = (tt, u)
-    both false u = absurd u

@@ -3,19 +3,22 @@
 use libc::STDOUT_FILENO;
 use model::Controller;
 use registers::Answer;
+use registers::FONT_SIZE;
+use registers::MEMORY_SIZE;
 ghost use mathlib.Core.Path.{_≡_};
 ghost use lib.ListN.{length};
+ghost use Rattle.registers.specs.Sizes.{memorySize, fontSize};
 
-fn display_memory() -> [u8; 32768]
-    ensures { λ r. ⌜ 32768 ≡ length r ⌝ }
+fn display_memory() -> [u8; MEMORY_SIZE]
+    ensures { λ r. ⌜ memorySize ≡ length r ⌝ }
 {
-    [0; 32768]
+    [0; MEMORY_SIZE]
 }
 
-fn font() -> [u8; 1280]
-    ensures { λ r. ⌜ 1280 ≡ length r ⌝ }
+fn font() -> [u8; FONT_SIZE]
+    ensures { λ r. ⌜ fontSize ≡ length r ⌝ }
 {
-    [0; 1280]
+    [0; FONT_SIZE]
 }
 
 // Three parameters sent.

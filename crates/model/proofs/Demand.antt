@@ -7,6 +7,7 @@ use lib.ListN.{replicate, length-replicate}
 use Rattle.registers.specs.declared.Command.{Command}
 use Rattle.registers.specs.declared.Command.the-variants.{None, SystemSet, SleepIn, Disp, Scroll, CsrForm, CsrDir, Ovlay, CgramAdr, HdotScr, GrayScale, Csrw, Csrr, Mwrite, Mread}
 use Rattle.registers.specs.Parameters.{allowed, systemAllows, formAllows}
+use Rattle.registers.specs.Sizes.{memorySize}
 use Rattle.model.specs.Refresh.{All, Byte, AllValues, nine, Refresh}
 use Rattle.model.specs.Demand.{Demand3}
 use Rattle.model.proofs.Settles.{settles}
@@ -44,9 +45,9 @@ a-refresh =
       on = true;
       order = nine;
       once = λ c. refl;
-      memory = replicate 32768 0;
-      memory-bytes = all-zero 32768;
-      memory-full = length-replicate {A = ℕ} 32768 0;
+      memory = replicate memorySize 0;
+      memory-bytes = all-zero memorySize;
+      memory-full = length-replicate {A = ℕ} memorySize 0;
     }
 
 pub demand-3 : Demand3

@@ -19,6 +19,7 @@ use Rattle.choice.specs.Choice.{if_then_else_}
 use Rattle.registers.specs.Commands.{commandOf, code, _is_}
 use Rattle.registers.specs.Parameters.{begin, store, storeSystem, storeDisplay, storeBlocks, storeForm, storeOverlay, directionOf, withLow, allowed, systemAllows, formAllows, resetRegisters}
 use Rattle.registers.specs.Cursor.{nextAddress}
+use Rattle.registers.specs.Sizes.{memorySize}
 use Rattle.registers.proofs.Codes.{is-same}
 use Rattle.model.specs.declared.Pending.{Pending}
 use Rattle.model.specs.declared.Controller.{Controller}
@@ -31,15 +32,15 @@ use Rattle.model.proofs.Runs.{Runs, runs-none, runs-cons, runs-append, 
 use Rattle.model.proofs.Steps.{at, next, writing, travel, spilled}
 use Rattle.model.proofs.Ten.{Ten, of-ten}
 use Rattle.model.proofs.Seen.{none, adds, adds-without, all-counted, all-without}
-use Rattle.model.proofs.Settles.{order-ten, mix, mix-run, write-begun, runs-sends}
+use Rattle.model.proofs.Settles.{order-ten, settling, settling-run, write-begun, runs-sends}
 
 -- Two controllers from reset, the second after a list that makes a number of c's registers 1
 
-abbrev turn : Direction → ℕ
-turn Right = 0
-turn Left = 1
-turn Up = 2
-turn Down = 3
+abbrev directionNumber : Direction → ℕ
+directionNumber Right = 0
+directionNumber Left = 1
+directionNumber Up = 2
+directionNumber Down = 3
 
 abbrev observe : Command → Registers → ℕ
 observe None x = 0
@@ -48,7 +49,7 @@ observe SleepIn x = 0
 observe Disp x = if x .display .on then 1 else 0
 observe Scroll x = x .blocks .sad1
 observe CsrForm x = x .form .crx .0
-observe CsrDir x = turn (x .cursor .direction)
+observe CsrDir x = directionNumber (x .cursor .direction)
 observe Ovlay x = x .overlay .mx
 observe CgramAdr x = x .cgram
 observe HdotScr x = x .hdot
@@ -80,7 +81,7 @@ record Probed (memory : List ℕ) (c : Command) : Type 0 where
   one : observe c (left .registers) ≡ 1
   fit : Fit c (left .registers)
 
-module _ (memory : List ℕ) (full : length memory ≡ 32768) where
+module _ (memory : List ℕ) (full : length memory ≡ memorySize) where
   told : (c : Command) (s : Controller) → All OnBus (probe c) → after (reset memory) (probe c) ≡ machine s memory → observe c resetRegisters ≡ 0 → observe c (s .registers) ≡ 1 → Fit c (s .registers) → Probed memory c
   told c s b e u o f = record { bytes = b; left = s; leads = e; unset = u; one = o; fit = f }
 
@@ -129,29 +130,29 @@ rightwards x awake address (b ∷ bs) d h = ap (λ (n : ℕ). travel x awake n b
 
 -- what MWRITE adds to the number of c
 abbrev gain : Command → ℕ
-gain c = if c is Csrw then 32768 else 0
+gain c = if c is Csrw then memorySize else 0
 
 module _ (r : Refresh) where
   abbrev seen : Command → Command → Bool
   seen c = adds (without c (SystemSet ∷ r .order)) none
 
-  ten-run : (c : Command) (s : Controller) (memory : List ℕ) → length memory ≡ 32768 → s .registers .asleep ≡ false
+  ten-run : (c : Command) (s : Controller) (memory : List ℕ) → length memory ≡ memorySize → s .registers .asleep ≡ false
       → (pending : Pending)
-      × Runs Only7 (machine s memory) (sends r (without c (SystemSet ∷ r .order))) (machine (record { registers = mix r (seen c) (s .registers); pending = pending }) memory)
-      × (mix r (seen c) (s .registers) .asleep ≡ false)
+      × Runs Only7 (machine s memory) (sends r (without c (SystemSet ∷ r .order))) (machine (record { registers = settling r (seen c) (s .registers); pending = pending }) memory)
+      × (settling r (seen c) (s .registers) .asleep ≡ false)
   ten-run c s memory full awake =
-      let t = mix-run r (without c (SystemSet ∷ r .order)) (all-without Ten c (SystemSet ∷ r .order) (omega arith, order-ten r)) none (s .registers) (s .pending) memory full awake in
+      let t = settling-run r (without c (SystemSet ∷ r .order)) (all-without Ten c (SystemSet ∷ r .order) (omega arith, order-ten r)) none (s .registers) (s .pending) memory full awake in
       (t .0, runs-weaker only-7 (t .1), t .2)
 
   rest-parts : (c : Command) {m m′ : Machine} → Runs Only7 m (sends r (without c (SystemSet ∷ r .order) ++ without c (Mwrite ∷ []))) m′ → Runs Only7 m (rest r c) m′
   rest-parts c h = rw (without-append c (SystemSet ∷ r .order) (Mwrite ∷ [])) h
 
   -- and MWRITE after them
-  rest-run : (c : Command) → (c is Mwrite) ≡ false → (s : Controller) (memory : List ℕ) → length memory ≡ 32768 → s .registers .asleep ≡ false
-      → (awake : mix r (seen c) (s .registers) .asleep ≡ false) × (memory′ : List ℕ)
-      × (let x = mix r (seen c) (s .registers) in Runs Only7 (machine s memory) (rest r c) (writing x (travel x awake (x .cursor .address) (r .memory)) memory′))
+  rest-run : (c : Command) → (c is Mwrite) ≡ false → (s : Controller) (memory : List ℕ) → length memory ≡ memorySize → s .registers .asleep ≡ false
+      → (awake : settling r (seen c) (s .registers) .asleep ≡ false) × (memory′ : List ℕ)
+      × (let x = settling r (seen c) (s .registers) in Runs Only7 (machine s memory) (rest r c) (writing x (travel x awake (x .cursor .address) (r .memory)) memory′))
   rest-run c n s memory full awake =
-      let x = mix r (seen c) (s .registers) in
+      let x = settling r (seen c) (s .registers) in
       let t = ten-run c s memory full awake in
       let k = spilled x (t .2) (x .cursor .address) memory (r .memory) full in (
         t .2,
@@ -164,19 +165,19 @@ module _ (r : Refresh) where
 
   -- what c alone sets stays as it was
   abbrev Stays : Command → Type 0
-  Stays c = (seen : Command → Bool) → seen c ≡ false → (x : Registers) → Fit c x → (awake : mix r seen x .asleep ≡ false)
-      → let y = mix r seen x in observe c (at y (travel y awake (y .cursor .address) (r .memory))) ≡ observe c x + gain c
+  Stays c = (seen : Command → Bool) → seen c ≡ false → (x : Registers) → Fit c x → (awake : settling r seen x .asleep ≡ false)
+      → let y = settling r seen x in observe c (at y (travel y awake (y .cursor .address) (r .memory))) ≡ observe c x + gain c
 
   stays-csrw : Stays Csrw
   stays-csrw seen h x f awake =
-      let y = mix r seen x in
+      let y = settling r seen x in
       rightwards y awake (y .cursor .address) (r .memory) (go (seen CsrDir)) (omega (arith, address, r .memory-full, f .2)) ∙ rw (address, r .memory-full)
     where
       go : (t : Bool) → (if t then Right else x .cursor .direction) ≡ Right
       go true = refl
       go false = f .1 tt
 
-      address : mix r seen x .cursor .address ≡ x .cursor .address
+      address : settling r seen x .cursor .address ≡ x .cursor .address
       address = rw h
 
   stays : (c : Command) → Ten c → Stays c
@@ -195,11 +196,11 @@ module _ (r : Refresh) where
         csrw = stays-csrw;
       })
 
-  number-left : (c : Command) → Ten c → (c is Mwrite) ≡ false → (s : Controller) (memory : List ℕ) → length memory ≡ 32768 → Fit c (s .registers)
+  number-left : (c : Command) → Ten c → (c is Mwrite) ≡ false → (s : Controller) (memory : List ℕ) → length memory ≡ memorySize → Fit c (s .registers)
       → (m : Machine) × Runs Only7 (machine s memory) (rest r c) m × (observe c (m .controller .registers) ≡ observe c (s .registers) + gain c)
   number-left c h n s memory full f =
       let t = rest-run c n s memory full (f .0) in
-      let x = mix r (seen c) (s .registers) in (
+      let x = settling r (seen c) (s .registers) in (
         writing x (travel x (t .0) (x .cursor .address) (r .memory)) (t .1),
         t .2,
         stays c h (seen c) (adds-without c (SystemSet ∷ r .order) none) (s .registers) f (t .0),
@@ -218,7 +219,7 @@ differs r c p₁ p₂ see n h₁ e₁ h₂ e₂ =
       differ = λ q. omega (arith, sym e₁ ∙ ap see (sym (h₁ .leads) ∙ q ∙ h₂ .leads) ∙ e₂);
     }
 
-abbrev prior : (memory : List ℕ) → All Byte memory → length memory ≡ 32768 → (calls : List BusCall) → All OnBus calls → Prior
+abbrev prior : (memory : List ℕ) → All Byte memory → length memory ≡ memorySize → (calls : List BusCall) → All OnBus calls → Prior
 prior memory b full calls cb = record { memory = memory; memory-bytes = b; memory-full = full; calls = calls; calls-bytes = cb }
 
 needed-ten : (r : Refresh) (c : Command) → Ten c → (c is Mwrite) ≡ false → Differ r c
@@ -230,10 +231,10 @@ needed-ten r c h n =
     (a .1) (a .2 ∙ ap (λ (k : ℕ). k + gain c) (p .unset) ∙ omega arith)
     (subst (λ (m : Machine). Runs Only7 m (rest r c) (b .0)) (sym (p .leads)) (b .1)) (b .2 ∙ ap (λ (k : ℕ). k + gain c) (p .one) ∙ omega arith)
 
-all-set : (l : List ℕ) (i b : ℕ) → Byte b → All Byte l → All Byte (set l i b)
-all-set [] i b h k = tt
-all-set (x ∷ xs) zero b h k = (h, k .1)
-all-set (x ∷ xs) (suc i) b h k = (k .0, all-set xs i b h (k .1))
+bytes-set : (l : List ℕ) (i b : ℕ) → Byte b → All Byte l → All Byte (set l i b)
+bytes-set [] i b h k = tt
+bytes-set (x ∷ xs) zero b h k = (h, k .1)
+bytes-set (x ∷ xs) (suc i) b h k = (k .0, bytes-set xs i b h (k .1))
 
 -- without MWRITE a first byte of 0 and one of 1 stay
 needed-mwrite : (r : Refresh) → Differ r Mwrite
@@ -244,19 +245,19 @@ needed-mwrite r =
     changed : ℕ → List ℕ
     changed b = set (r .memory) 0 b
 
-    full : (b : ℕ) → length (changed b) ≡ 32768
+    full : (b : ℕ) → length (changed b) ≡ memorySize
     full b = length-set (r .memory) 0 b ∙ r .memory-full
 
     byte : (b : ℕ) → getD (changed b) 0 0 ≡ b
     byte b = getD-set-same (r .memory) 0 b 0 (omega (arith, r .memory-full))
 
     first : (b : ℕ) → Byte b → Prior
-    first b h = prior (changed b) (all-set (r .memory) 0 b h (r .memory-bytes)) (full b) [] tt
+    first b h = prior (changed b) (bytes-set (r .memory) 0 b h (r .memory-bytes)) (full b) [] tt
 
     run : (b : ℕ) (h : Byte b) → (c : Controller) × Runs Only7 (reached (first b h)) (rest r Mwrite) (machine c (changed b))
     run b h =
         let t = ten-run r Mwrite (reset (changed b) .controller) (changed b) (full b) refl in (
-          record { registers = mix r (seen r Mwrite) resetRegisters; pending = t .0 },
+          record { registers = settling r (seen r Mwrite) resetRegisters; pending = t .0 },
           rest-parts r Mwrite (runs-sends r (without Mwrite (SystemSet ∷ r .order)) [] (t .1) runs-none),
         )
 

@@ -1,15 +1,10 @@
 -- Runs: a list of calls that leads from one machine to another, every answer having a property. The memory keeps its size.
-use Prim.Native.Nat.{ℕ}
-use mathlib.Core.Bool.{Bool, true, false, not}
 use mathlib.Core.List.{List, [], _∷_, _++_}
 use mathlib.Core.Path.{_≡_, refl, sym, subst, _∙_}
 use lib.ListN.{length, length-set}
-use Rattle.registers.specs.declared.Command.the-variants.{None, Mwrite, Mread}
-use Rattle.choice.specs.Choice.{if_then_else_, _<?_}
-use Rattle.registers.specs.Commands.{commandOf, _is_, parameters}
-use Rattle.registers.specs.Parameters.{allowed}
+use Rattle.choice.proofs.Cases.{choose}
 use Rattle.model.specs.Machine.{Machine, Outcome}
-use Rattle.model.specs.Bus.{ignored, served, sized, inside, commandWrite, writeMemory, writeParameter, dataWrite, readMemory, cursorReads, readCursor, dataRead}
+use Rattle.model.specs.Bus.{commandWrite, writeMemory, writeParameter, dataWrite, readMemory, readCursor, dataRead}
 use Rattle.model.specs.Calls.{BusCall, command, write, read, call, after, outcomes}
 use Rattle.model.specs.Refresh.{All}
 
@@ -42,40 +37,16 @@ all-weaker f (o ∷ os) h = (f o (h .0), all-weaker f os (h .1))
 pub runs-weaker : {P Q : Outcome → Type 0} → ((o : Outcome) → P o → Q o) → {m m′ : Machine} {cs : List BusCall} → Runs P m cs m′ → Runs Q m cs m′
 runs-weaker f {m} {cs = cs} h = record { leads = h .leads; answered = all-weaker f (outcomes m cs) (h .answered) }
 
--- whichever case a test picks
-pub either : (P : Outcome → Type 0) (test : Bool) {x y : Outcome} → P x → P y → P (if test then x else y)
-either P true p q = p
-either P false p q = q
+abbrev SameSize : Machine → Outcome → Type 0
+SameSize m o = length (o .machine .memory) ≡ length (m .memory)
 
-module _ (m : Machine) where
-  Kept : Outcome → Type 0
-  Kept o = length (o .machine .memory) ≡ length (m .memory)
-
-  kept-command : (b : ℕ) → Kept (commandWrite m b)
-  unfolding Kept commandWrite
-  kept-command b = either Kept (commandOf b is None) refl (either Kept (ignored (commandOf b) (m .controller .registers .asleep)) refl refl)
-
-  kept-write : (b : ℕ) → Kept (dataWrite m b)
-  unfolding Kept dataWrite writeMemory writeParameter
-  kept-write b =
-      let c = m .controller in
-      either Kept (not (sized m)) refl
-      (either Kept (served c is Mwrite) (either Kept (inside m) (length-set (m .memory) (c .registers .cursor .address) b) refl)
-      (either Kept (c .pending .place <? parameters (served c)) (either Kept (allowed (served c) (c .pending .place) b) refl refl)
-      refl))
-
-  kept-read : Kept (dataRead m)
-  unfolding Kept dataRead readMemory readCursor
-  kept-read =
-      let c = m .controller in
-      either Kept (not (sized m)) refl
-      (either Kept (served c is Mread) (either Kept (inside m) refl refl)
-      (either Kept (c .pending .place <? cursorReads (served c)) refl
-      refl))
+-- no call changes the size of the memory
+call-size : (m : Machine) (c : BusCall) → length (call m c .machine .memory) ≡ length (m .memory)
+unfolding commandWrite dataWrite writeMemory writeParameter dataRead readMemory readCursor
+call-size m (command b) = search (choose (SameSize m)) depth 12
+call-size m (write b) = search (choose (SameSize m), length-set) depth 12
+call-size m read = search (choose (SameSize m)) depth 12
 
 pub after-size : (m : Machine) (cs : List BusCall) → length (after m cs .memory) ≡ length (m .memory)
-unfolding Kept
 after-size m [] = refl
-after-size m (command b ∷ cs) = after-size _ cs ∙ kept-command m b
-after-size m (write b ∷ cs) = after-size _ cs ∙ kept-write m b
-after-size m (read ∷ cs) = after-size _ cs ∙ kept-read m
+after-size m (c ∷ cs) = after-size (call m c .machine) cs ∙ call-size m c

@@ -12,6 +12,7 @@ use Rattle.registers.specs.declared.Registers.{Registers}
 use Rattle.choice.specs.Choice.{if_then_else_}
 use Rattle.registers.specs.Commands.{commandOf, _is_, parameters}
 use Rattle.registers.specs.Parameters.{begin, store, storeSystem, storeDisplay, storeBlocks, storeForm, storeOverlay, directionOf, resetRegisters}
+use Rattle.registers.specs.Sizes.{memorySize}
 use Rattle.registers.proofs.Words.{both-bytes}
 use Rattle.model.specs.declared.Pending.{Pending}
 use Rattle.model.specs.declared.Controller.{Controller}
@@ -62,7 +63,7 @@ module _ (r : Refresh) where
   abbrev pub put : Command → Registers → Registers
   put c x = stores c 0 (parameters c) (r .values c) (begin c (opcode r c) x)
 
-  command-run : (c : Command) → Ten c → (s : Controller) (memory : List ℕ) → length memory ≡ 32768 → Takes c (s .registers)
+  command-run : (c : Command) → Ten c → (s : Controller) (memory : List ℕ) → length memory ≡ memorySize → Takes c (s .registers)
       → Runs Accepted (machine s memory) (send r c) (machine (controller (put c (s .registers)) c (parameters c)) memory)
   unfolding begin
   command-run c h s memory full t =
@@ -88,8 +89,8 @@ module _ (r : Refresh) where
       }
 
   -- after some of the ten, from x: what they set, and x for the rest
-  abbrev pub mix : (Command → Bool) → Registers → Registers
-  mix seen x =
+  abbrev pub settling : (Command → Bool) → Registers → Registers
+  settling seen x =
       record {
         system = if seen SystemSet then settled .system else x .system;
         display = if seen Disp then settled .display else x .display;
@@ -107,10 +108,10 @@ module _ (r : Refresh) where
         asleep = if seen SystemSet then settled .asleep else x .asleep;
       }
 
-  put-mix : (c : Command) → Ten c → (seen : Command → Bool) (x : Registers) → put c (mix seen x) ≡ mix (also c seen) x
+  put-settling : (c : Command) → Ten c → (seen : Command → Bool) (x : Registers) → put c (settling seen x) ≡ settling (also c seen) x
   unfolding begin store storeSystem storeDisplay storeBlocks storeForm storeOverlay directionOf
-  put-mix =
-      of-ten (λ c. (seen : Command → Bool) (x : Registers) → put c (mix seen x) ≡ mix (also c seen) x)
+  put-settling =
+      of-ten (λ c. (seen : Command → Bool) (x : Registers) → put c (settling seen x) ≡ settling (also c seen) x)
       (record {
         system-set = λ seen x. let v = r .values SystemSet in simp (both-bytes (v .3 .3 .3 .3 .3 .3 .1));
         scroll =
@@ -131,7 +132,7 @@ module _ (r : Refresh) where
             simp (both-bytes (r .values Csrw .1)) (rw (low, high));
       })
 
-  awake-also : (c : Command) (seen : Command → Bool) (x : Registers) → mix seen x .asleep ≡ false → mix (also c seen) x .asleep ≡ false
+  awake-also : (c : Command) (seen : Command → Bool) (x : Registers) → settling seen x .asleep ≡ false → settling (also c seen) x .asleep ≡ false
   awake-also c seen x = go (SystemSet is c) (seen SystemSet)
     where
       go : (t s : Bool) → (if s then false else x .asleep) ≡ false → (if t || s then false else x .asleep) ≡ false
@@ -139,26 +140,26 @@ module _ (r : Refresh) where
       go false s h = h
 
   -- some of the ten in any order, awake
-  pub mix-run : (cs : List Command) → All Ten cs → (seen : Command → Bool) (x : Registers) (pending : Pending) (memory : List ℕ) → length memory ≡ 32768 → mix seen x .asleep ≡ false
+  pub settling-run : (cs : List Command) → All Ten cs → (seen : Command → Bool) (x : Registers) (pending : Pending) (memory : List ℕ) → length memory ≡ memorySize → settling seen x .asleep ≡ false
       → (pending′ : Pending)
-      × Runs Accepted (machine (record { registers = mix seen x; pending = pending }) memory) (sends r cs) (machine (record { registers = mix (adds cs seen) x; pending = pending′ }) memory)
-      × (mix (adds cs seen) x .asleep ≡ false)
-  mix-run [] h seen x pending memory full a = (pending, runs-none, a)
-  mix-run (c ∷ cs) h seen x pending memory full a =
-      let now = command-run c (h .0) (record { registers = mix seen x; pending = pending }) memory full (takes-awake c (mix seen x) a) in
-      let later = mix-run cs (h .1) (also c seen) x (record { command = c; place = parameters c }) memory full (awake-also c seen x a) in
-      (later .0, runs-append (send r c) (runs-to (ap (λ (y : Registers). machine (controller y c (parameters c)) memory) (put-mix c (h .0) seen x)) now) (later .1), later .2)
+      × Runs Accepted (machine (record { registers = settling seen x; pending = pending }) memory) (sends r cs) (machine (record { registers = settling (adds cs seen) x; pending = pending′ }) memory)
+      × (settling (adds cs seen) x .asleep ≡ false)
+  settling-run [] h seen x pending memory full a = (pending, runs-none, a)
+  settling-run (c ∷ cs) h seen x pending memory full a =
+      let now = command-run c (h .0) (record { registers = settling seen x; pending = pending }) memory full (takes-awake c (settling seen x) a) in
+      let later = settling-run cs (h .1) (also c seen) x (record { command = c; place = parameters c }) memory full (awake-also c seen x a) in
+      (later .0, runs-append (send r c) (runs-to (ap (λ (y : Registers). machine (controller y c (parameters c)) memory) (put-settling c (h .0) seen x)) now) (later .1), later .2)
 
   -- and SYSTEM SET before them, awake or not
-  pub first-run : (cs : List Command) → All Ten cs → (s : Controller) (memory : List ℕ) → length memory ≡ 32768
+  pub first-run : (cs : List Command) → All Ten cs → (s : Controller) (memory : List ℕ) → length memory ≡ memorySize
       → (pending′ : Pending)
-      × Runs Accepted (machine s memory) (sends r (SystemSet ∷ cs)) (machine (record { registers = mix (adds (SystemSet ∷ cs) none) (s .registers); pending = pending′ }) memory)
-      × (mix (adds (SystemSet ∷ cs) none) (s .registers) .asleep ≡ false)
+      × Runs Accepted (machine s memory) (sends r (SystemSet ∷ cs)) (machine (record { registers = settling (adds (SystemSet ∷ cs) none) (s .registers); pending = pending′ }) memory)
+      × (settling (adds (SystemSet ∷ cs) none) (s .registers) .asleep ≡ false)
   unfolding ignored
   first-run cs h s memory full =
       let now = command-run SystemSet (omega arith) s memory full refl in
-      let later = mix-run cs h (also SystemSet none) (s .registers) (record { command = SystemSet; place = parameters SystemSet }) memory full refl in
-      (later .0, runs-append (send r SystemSet) (runs-to (ap (λ (y : Registers). machine (controller y SystemSet (parameters SystemSet)) memory) (put-mix SystemSet (omega arith) none (s .registers))) now) (later .1), later .2)
+      let later = settling-run cs h (also SystemSet none) (s .registers) (record { command = SystemSet; place = parameters SystemSet }) memory full refl in
+      (later .0, runs-append (send r SystemSet) (runs-to (ap (λ (y : Registers). machine (controller y SystemSet (parameters SystemSet)) memory) (put-settling SystemSet (omega arith) none (s .registers))) now) (later .1), later .2)
 
   pub order-ten : All Ten (r .order)
   order-ten = all-counted Ten (r .order) (λ c h. go c (c is SystemSet) refl (subst (λ (n : ℕ). 0 < n) (r .once c) h))
@@ -167,8 +168,8 @@ module _ (r : Refresh) where
       go c true e h = rw e (omega arith)
       go c false e h = rw e h
 
-  mix-all : (seen : Command → Bool) (x : Registers) → ((c : Command) → Ten c → seen c ≡ true) → mix seen x ≡ settled
-  mix-all seen x h =
+  settling-all : (seen : Command → Bool) (x : Registers) → ((c : Command) → Ten c → seen c ≡ true) → settling seen x ≡ settled
+  settling-all seen x h =
       rw (h SystemSet (omega arith), h Disp (omega arith), h Scroll (omega arith), h CsrForm (omega arith), h Ovlay (omega arith), h CgramAdr (omega arith), h HdotScr (omega arith), h GrayScale (omega arith), h Csrw (omega arith), h CsrDir (omega arith))
 
   pub write-begun : (x : Registers) (pending : Pending) (memory : List ℕ) → x .asleep ≡ false
@@ -187,12 +188,12 @@ module _ (r : Refresh) where
   abbrev pub image : Machine
   image = writing settled (length (r .memory)) (r .memory)
 
-  pub refreshed : (s : Controller) (memory : List ℕ) → length memory ≡ 32768 → Runs Accepted (machine s memory) (sent r) image
+  pub refreshed : (s : Controller) (memory : List ℕ) → length memory ≡ memorySize → Runs Accepted (machine s memory) (sent r) image
   refreshed s memory full =
       let t = first-run (r .order) order-ten s memory full in
       runs-sends (SystemSet ∷ r .order) (Mwrite ∷ []) (t .1)
       (subst (λ (x : Registers). Runs Accepted (machine (record { registers = x; pending = t .0 }) memory) (sends r (Mwrite ∷ [])) image)
-      (sym (mix-all (adds (SystemSet ∷ r .order) none) (s .registers) all-seen))
+      (sym (settling-all (adds (SystemSet ∷ r .order) none) (s .registers) all-seen))
       (runs-append (send r Mwrite)
       (runs-cons (write-begun settled (t .0) memory refl) refl (filled settled refl refl [] memory (r .memory) (full ∙ sym (r .memory-full)) full)) runs-none))
     where

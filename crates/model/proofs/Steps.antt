@@ -18,6 +18,7 @@ use Rattle.registers.specs.Commands.{commandOf, _is_, parameters}
 use Rattle.registers.specs.Parameters.{begin, store, allowed}
 use Rattle.registers.specs.Refusals.{Reply, accepted, refused}
 use Rattle.registers.specs.Cursor.{nextAddress, withCursor}
+use Rattle.registers.specs.Sizes.{memorySize}
 use Rattle.model.specs.declared.Controller.{Controller}
 use Rattle.model.specs.Machine.{Machine, machine, accept, controller}
 use Rattle.model.specs.Bus.{ignored, commandWrite, served, dataWrite, writeParameter, writeMemory}
@@ -49,7 +50,7 @@ unfolding commandWrite
 begun c b e n s memory t = rw (e, n, t)
 
 -- a parameter that is wanted and allowed
-stored : (c : Command) (place b : ℕ) → place < parameters c → (c is Mwrite) ≡ false → allowed c place b ≡ true → (x : Registers) (memory : List ℕ) → length memory ≡ 32768 → Takes c x
+stored : (c : Command) (place b : ℕ) → place < parameters c → (c is Mwrite) ≡ false → allowed c place b ≡ true → (x : Registers) (memory : List ℕ) → length memory ≡ memorySize → Takes c x
     → call (machine (controller x c place) memory) (write b) ≡ accept (controller (store c place b x) c (place + 1)) memory
 unfolding dataWrite writeParameter served
 stored c place b l w a x memory full t = rw (eq-eqb _ _ full, t, w, lt-ltb _ _ l, a)
@@ -63,7 +64,7 @@ true-of : (b : Bool) → T b → b ≡ true
 true-of true h = refl
 true-of false h = absurd h
 
-pub parameters-run : (c : Command) → (c is Mwrite) ≡ false → (place k : ℕ) → place + k ≡ parameters c → (vs : Values c place k) (x : Registers) (memory : List ℕ) → length memory ≡ 32768 → Takes c x
+pub parameters-run : (c : Command) → (c is Mwrite) ≡ false → (place k : ℕ) → place + k ≡ parameters c → (vs : Values c place k) (x : Registers) (memory : List ℕ) → length memory ≡ memorySize → Takes c x
     → Runs Accepted (machine (controller x c place) memory) (map write (bytes c place k vs)) (machine (controller (stores c place k vs x) c (parameters c)) memory)
 parameters-run c w place zero e vs x memory full t = runs-to (ap (λ (n : ℕ). machine (controller x c n) memory) (omega arith)) runs-none
 parameters-run c w place (suc k) e vs x memory full t =
@@ -82,13 +83,13 @@ abbrev pub writing : Registers → ℕ → List ℕ → Machine
 writing x address memory = machine (controller (at x address) Mwrite 0) memory
 
 module _ (x : Registers) (awake : x .asleep ≡ false) where
-  wrote : (address : ℕ) (memory : List ℕ) (b : ℕ) → length memory ≡ 32768 → address < 32768
+  wrote : (address : ℕ) (memory : List ℕ) (b : ℕ) → length memory ≡ memorySize → address < memorySize
       → call (writing x address memory) (write b) ≡ record { machine = writing x (next x address) (set memory address b); reply = accepted }
   unfolding dataWrite writeMemory served ignored
   wrote address memory b full h = rw (eq-eqb _ _ full, awake, lt-ltb address (length memory) (omega arith))
 
   -- rightwards from the end of `done`: the bytes stand behind it, and nothing of what stood there is left
-  pub filled : x .cursor .direction ≡ Right → (done old bs : List ℕ) → length old ≡ length bs → length (done ++ old) ≡ 32768
+  pub filled : x .cursor .direction ≡ Right → (done old bs : List ℕ) → length old ≡ length bs → length (done ++ old) ≡ memorySize
       → Runs Accepted (writing x (length done) (done ++ old)) (map write bs) (writing x (length (done ++ bs)) (done ++ bs))
   unfolding nextAddress
   filled d done [] [] e full = runs-to (rw append-nil) runs-none
@@ -98,7 +99,7 @@ module _ (x : Registers) (awake : x .asleep ≡ false) where
       runs-cons (wrote (length done) (done ++ (o ∷ os)) b full (omega (arith, sizes))) refl
       (rw (set-append-seam, right) (simp append-snoc at (filled d (done ++ (b ∷ [])) os bs (omega arith) (simp (append-snoc, length-append) sizes))))
     where
-      sizes : length done + suc (length os) ≡ 32768
+      sizes : length done + suc (length os) ≡ memorySize
       sizes = sym (length-append done (o ∷ os)) ∙ full
 
       right : next x (length done) ≡ length (done ++ (b ∷ []))
@@ -109,15 +110,15 @@ module _ (x : Registers) (awake : x .asleep ≡ false) where
   travel address [] = address
   travel address (b ∷ bs) = travel (next x address) bs
 
-  pub spilled : (address : ℕ) (memory bs : List ℕ) → length memory ≡ 32768 → (memory′ : List ℕ) × Runs Only7 (writing x address memory) (map write bs) (writing x (travel address bs) memory′)
+  pub spilled : (address : ℕ) (memory bs : List ℕ) → length memory ≡ memorySize → (memory′ : List ℕ) × Runs Only7 (writing x address memory) (map write bs) (writing x (travel address bs) memory′)
   unfolding dataWrite writeMemory served ignored
   spilled address memory [] full = (memory, runs-none)
   spilled address memory (b ∷ bs) full =
-      let t = one (address <? 32768) refl in
+      let t = one (address <? memorySize) refl in
       let k = spilled (next x address) (t .0) bs (t .1) in
       (k .0, runs-cons {o = record { machine = writing x (next x address) (t .0); reply = t .2 }} (t .3) (t .4) (k .1))
     where
-      one : (t : Bool) → (address <? 32768) ≡ t → (memory₁ : List ℕ) × (length memory₁ ≡ 32768) × (answer : Reply)
+      one : (t : Bool) → (address <? memorySize) ≡ t → (memory₁ : List ℕ) × (length memory₁ ≡ memorySize) × (answer : Reply)
           × (call (writing x address memory) (write b) ≡ record { machine = writing x (next x address) memory₁; reply = answer }) × ((answer .refusal ≡ 0) ⊎ (answer .refusal ≡ 7))
       one true e = (set memory address b, length-set memory address b ∙ full, accepted, wrote address memory b full (ltb-true _ _ e), inl refl)
       one false e = (memory, full, refused 7, rw (eq-eqb _ _ full, awake, full, e), inr refl)

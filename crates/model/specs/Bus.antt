@@ -1,4 +1,5 @@
--- 01, 'Refusal numbers' and 'Reset, commands and parameters': what a command write, a data write and a data read do.
+-- Reference, 'Commands', 'Memory and cursor' and 'Refusals'; 01, 'Refusal numbers' and 'Reset, commands and parameters': what a
+-- command write, a data write and a data read do.
 use Prim.Native.Nat.{ℕ, _+_, _/_, _%_}
 use mathlib.Core.Bool.{Bool, not, _&&_}
 use lib.ListN.{length, getD, set}

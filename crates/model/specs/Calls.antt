@@ -1,4 +1,5 @@
--- 01, 'The full refresh': lists of calls. Each call gets the controller and the memory that the one before it left.
+-- Reference, 'The full refresh'; 01, 'The full refresh': lists of calls. Each call gets the controller and the memory that the
+-- one before it left.
 use Prim.Native.Nat.{ℕ}
 use mathlib.Core.List.{List, [], _∷_, map}
 use Rattle.registers.specs.Refusals.{Reply}
@@ -36,12 +37,12 @@ reset memory = machine resetController memory
 
 -- Calls with rows among them
 
--- what a row is asked with, and how long its buffer is
+-- what a row is asked with
 pub record RowRequest : Type 0 where
   pub row : ℕ
   pub font : List ℕ
   pub frame : ℕ
-  pub buffer : ℕ
+  pub bufferLength : ℕ
 
 pub data Call : Type 0 where
   bus : BusCall → Call
@@ -61,7 +62,7 @@ callOutcome m (bus c) = record { machine = call m c .machine; answer = replied (
 callOutcome m (row q) =
     record {
       machine = m;
-      answer = composed (rowAnswer (m .controller .registers) (m .memory) (q .font) (q .frame) (q .row) (q .buffer));
+      answer = composed (rowAnswer (m .controller .registers) (m .memory) (q .font) (q .frame) (q .row) (q .bufferLength));
     }
 
 -- after each call of a list: registers, cursor and memory, and the answer

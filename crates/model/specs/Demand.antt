@@ -1,4 +1,4 @@
--- Demand 3, over the definitions of one call: one claim about whole lists.
+-- Reference, 'The full refresh'; demand 3, over the definitions of one call: one claim about whole lists.
 use Prim.Native.Nat.{ℕ}
 use mathlib.Core.List.{List}
 use mathlib.Core.Logic.{_⊎_, _≢_}

@@ -1,5 +1,6 @@
--- 01, 'Both sides of each edge': the cases marked *, each computed by the definitions from what a list of calls leaves, from
--- reset beside any memory of 32,768 bytes.
+-- Reference, 'Refusals', 'Commands', 'Memory and cursor', 'Width', 'Glyphs' and 'Flashing'; 01, 'Both sides of each edge': the
+-- cases marked *, each computed by the definitions from what a list of calls leaves, from reset beside any memory of 32,768
+-- bytes.
 use Prim.Native.Nat.{ℕ, _%_}
 use mathlib.Core.List.{List, [], _∷_, _++_}
 use mathlib.Core.Path.{_≡_}
@@ -16,20 +17,20 @@ use Rattle.model.specs.Machine.{Outcome}
 use Rattle.model.specs.Calls.{BusCall, command, write, sending, call, after, reset}
 use Rattle.model.specs.Refresh.{All}
 
--- What is looked at after a call
-pub data Look : Type 0 where
+-- What is observed after a call
+pub data Observation : Type 0 where
   -- its refusal, 0 where it is taken
-  refusal : Look
+  refusal : Observation
   -- the cursor, and the byte at an address
-  cursor : Look
-  byte : ℕ → Look
+  cursor : Observation
+  byte : ℕ → Observation
   -- the refusal of row 0 with a buffer of a length and a font of 1,280 bytes, 0 where it is composed
-  row0 : ℕ → Look
+  row0 : ℕ → Observation
   -- 1 where a block shows in a frame, else 0
-  lit : ℕ → ℕ → Look
+  lit : ℕ → ℕ → Observation
   -- of glyph row 0 of a code: the index of its font byte, and its CG RAM address
-  fontIndexOf : ℕ → Look
-  cgRamAddressOf : ℕ → Look
+  fontIndexOf : ℕ → Observation
+  cgRamAddressOf : ℕ → Observation
 
 -- past the font where a glyph is not of the font, past all addresses where it is not of CG RAM
 abbrev pub indexIn : Glyph → ℕ
@@ -42,25 +43,25 @@ addressIn Empty address = 65536
 addressIn (Font index) address = 65536
 addressIn CgRam address = address % 65536
 
-abbrev pub seen : Look → Outcome → ℕ
-seen refusal o = o .reply .refusal
-seen cursor o = o .machine .controller .registers .cursor .address
-seen (byte address) o = getD (o .machine .memory) address 0
-seen (row0 buffer) o = rowAnswer (o .machine .controller .registers) (o .machine .memory) (replicate fontSize 0) 0 0 buffer .refusal
-seen (lit block frame) o = if isLit (inLayout (o .machine .controller .registers) .display .fp) block frame then 1 else 0
-seen (fontIndexOf code) o = indexIn (glyphOf (o .machine .controller .registers .system .m0) code)
-seen (cgRamAddressOf code) o =
+abbrev pub observed : Observation → Outcome → ℕ
+observed refusal o = o .reply .refusal
+observed cursor o = o .machine .controller .registers .cursor .address
+observed (byte address) o = getD (o .machine .memory) address 0
+observed (row0 buffer) o = rowAnswer (o .machine .controller .registers) (o .machine .memory) (replicate fontSize 0) 0 0 buffer .refusal
+observed (lit block frame) o = if isLit (inLayout (o .machine .controller .registers) .display .fp) block frame then 1 else 0
+observed (fontIndexOf code) o = indexIn (glyphOf (o .machine .controller .registers .system .m0) code)
+observed (cgRamAddressOf code) o =
     let r = o .machine .controller .registers in
     addressIn (glyphOf (r .system .m0) code) (cgRamAddress (r .system .m2) (r .cgram) code 0)
 
 pub record Edge : Type 0 where
   pub before : List BusCall
   pub last : BusCall
-  pub look : Look
+  pub observation : Observation
   pub expected : ℕ
 
-abbrev pub edge : List BusCall → BusCall → Look → ℕ → Edge
-edge before last look expected = record { before = before; last = last; look = look; expected = expected }
+abbrev pub edge : List BusCall → BusCall → Observation → ℕ → Edge
+edge before last observation expected = record { before = before; last = last; observation = observation; expected = expected }
 
 abbrev pub rightAt7FFF : List BusCall
 rightAt7FFF = sending 0x4C [] ++ sending 0x46 (0xFF ∷ 0x7F ∷ []) ++ sending 0x42 []
@@ -131,4 +132,4 @@ edges =
 abbrev pub EdgesHold : Type 0
 EdgesHold =
     (memory : List ℕ) → length memory ≡ memorySize
-    → All (λ e. seen (e .look) (call (after (reset memory) (e .before)) (e .last)) ≡ e .expected) edges
+    → All (λ e. observed (e .observation) (call (after (reset memory) (e .before)) (e .last)) ≡ e .expected) edges

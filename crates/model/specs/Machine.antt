@@ -1,4 +1,5 @@
--- 01, 'What the model is' and 'Reset, commands and parameters': a controller beside its memory, and what a call gives.
+-- Reference, 'Reset'; 01, 'What the model is' and 'Reset, commands and parameters': a controller beside its memory, and what a
+-- call gives.
 use Prim.Native.Nat.{ℕ}
 use mathlib.Core.List.{List}
 use Rattle.registers.specs.declared.Command.{Command}
@@ -46,6 +47,10 @@ controller registers command place =
 abbrev pub resetController : Controller
 resetController = controller resetRegisters None 0
 
+-- another command pending, at the start of its list
+abbrev pub withPending : Command → Controller → Controller
+withPending command c = controller (c .registers) command 0
+
 -- the pending command ends
 abbrev pub ended : Controller → Controller
-ended c = controller (c .registers) None 0
+ended c = withPending None c

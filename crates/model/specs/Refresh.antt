@@ -1,4 +1,4 @@
--- 01, 'The full refresh'.
+-- Reference, 'The full refresh'; 01, 'The full refresh'.
 use Prim.Native.Nat.{ℕ, zero, suc, _+_, _<_}
 use mathlib.Core.Bool.{Bool, _&&_}
 use mathlib.Core.List.{List, [], _∷_, _++_}

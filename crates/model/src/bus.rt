@@ -12,7 +12,7 @@ use registers::Registers;
 ghost use Prim.Native.Nat.{ℕ};
 ghost use mathlib.Core.List.{List};
 ghost use mathlib.Core.Path.{_≡_};
-ghost use Rattle.model.specs.Machine.{resetController, machine, writtenOutcome, readOutcome, ended};
+ghost use Rattle.model.specs.Machine.{resetController, machine, writtenOutcome, readOutcome, withPending, ended};
 ghost use Rattle.model.specs.Bus.{ignored, served, commandWrite, dataWrite, cursorReads, addressByte, dataRead};
 
 // Whether a command is neither taken nor served: asleep, any but SYSTEM SET.
@@ -57,16 +57,24 @@ impl Controller {
         }
     }
 
-    // The pending command ended.
-    fn ended(mut self) -> Controller
-        ensures { λ r. ⌜ r ≡ ended self ⌝ }
+    // Another command pending, from the start of its list however far the one before had come.
+    fn with_pending(mut self, command: Command) -> Controller
+        ensures { λ r. ⌜ r ≡ withPending command self ⌝ }
     {
+        let start = 0;
         let pending = Pending {
-            command: Command::None,
-            place: 0,
+            command: command,
+            place: start,
         };
         self.pending = pending;
         self
+    }
+
+    // The pending command ended.
+    fn ended(self) -> Controller
+        ensures { λ r. ⌜ r ≡ ended self ⌝ }
+    {
+        self.with_pending(Command::None)
     }
 
     // The pending command that data writes and reads go to.
@@ -98,14 +106,9 @@ impl Controller {
                 answer: Answer::Refused(Refusal::Asleep),
             };
         }
-        let pending = Pending {
-            command: command,
-            place: 0,
-        };
-        self.pending = pending;
         self.registers = self.registers.begin(command, b);
         Written {
-            controller: self,
+            controller: self.with_pending(command),
             answer: Answer::Accepted,
         }
     }

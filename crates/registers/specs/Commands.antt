@@ -1,4 +1,4 @@
--- 01, the command table: codes, commands and how many parameters each takes.
+-- Reference, 'Commands'; 01, the command table: codes, commands and how many parameters each takes.
 use Prim.Native.Nat.{ℕ}
 use mathlib.Core.Bool.{Bool, _&&_}
 use mathlib.Core.List.{List, [], _∷_}

@@ -1,4 +1,4 @@
--- 01, 'What the model is': a stored code n stands for the count [n] = n + 1.
+-- Reference, 'Codes and counts'; 01, 'What the model is': a stored code n stands for the count [n] = n + 1.
 use Prim.Native.Nat.{ℕ, _+_}
 use Rattle.registers.specs.declared.Code.{Code}
 use Rattle.registers.specs.declared.Count.{Count}

@@ -1,4 +1,5 @@
--- 01, 'Reset, commands and parameters': each memory write or read moves the cursor by +1, -1, -AP or +AP, modulo 65,536.
+-- Reference, 'Memory and cursor'; 01, 'Reset, commands and parameters': each memory write or read moves the cursor by +1, -1, -AP
+-- or +AP, modulo 65,536.
 use Prim.Native.Nat.{ℕ, _+_, _-_, _%_}
 use Rattle.registers.specs.declared.Direction.{Direction}
 use Rattle.registers.specs.declared.Direction.the-variants.{Right, Left, Up, Down}

@@ -1,4 +1,5 @@
--- 01, 'Reset, commands and parameters': a field handed in outside its layout, or a grey code of 3, is read as 0.
+-- Reference, 'Reset'; 01, 'Reset, commands and parameters': a field handed in outside its layout, or a grey code of 3, is read
+-- as 0.
 use Prim.Native.Nat.{ℕ}
 use Rattle.choice.specs.Choice.{if_then_else_, _<?_}
 use Rattle.registers.specs.Counts.{codeOf}

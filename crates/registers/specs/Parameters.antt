@@ -1,5 +1,6 @@
--- 01, the command table and reset: what each parameter sets and which values it allows, what a command byte sets at once,
--- and what reset leaves. Written by field: where it stands in its command's list (P1 is place 0), and which bits it is.
+-- Reference, 'Commands' and 'Reset'; 01, the command table and reset: what each parameter sets and which values it allows, what a
+-- command byte sets at once, and what reset leaves. Written by field: where it stands in its command's list (P1 is place 0), and
+-- which bits it is.
 use Prim.Native.Nat.{ℕ, _+_, _-_, _*_, _/_, _%_, _^_}
 use mathlib.Core.Bool.{Bool, true, false, not, _&&_}
 use Rattle.choice.specs.Choice.{if_then_else_, _=?_}
@@ -36,8 +37,8 @@ unfoldable pub withHigh : ℕ → ℕ → ℕ
 withHigh x b = b * 256 + x % 256
 
 -- a two-byte register whose low byte comes at place k, and whose high byte comes next
-abbrev pub word : ℕ → ℕ → ℕ → ℕ → ℕ
-word k place b x =
+abbrev pub storeWord : ℕ → ℕ → ℕ → ℕ → ℕ
+storeWord k place b x =
     if place =? k then withLow x b
     else if place =? k + 1 then withHigh x b
     else x
@@ -58,7 +59,7 @@ storeSystem place b s =
       cr = if place =? 3 then codeOf b else s .cr;
       tcr = if place =? 4 then codeOf b else s .tcr;
       lf = if place =? 5 then codeOf b else s .lf;
-      ap = word 6 place b (s .ap);
+      ap = storeWord 6 place b (s .ap);
     }
 
 -- P1: 7-2 FP5..FP0, 1-0 FC
@@ -74,12 +75,12 @@ storeDisplay place b d =
 unfoldable pub storeBlocks : ℕ → ℕ → Blocks → Blocks
 storeBlocks place b s =
     record {
-      sad1 = word 0 place b (s .sad1);
+      sad1 = storeWord 0 place b (s .sad1);
       sl1 = if place =? 2 then codeOf b else s .sl1;
-      sad2 = word 3 place b (s .sad2);
+      sad2 = storeWord 3 place b (s .sad2);
       sl2 = if place =? 5 then codeOf b else s .sl2;
-      sad3 = word 6 place b (s .sad3);
-      sad4 = word 8 place b (s .sad4);
+      sad3 = storeWord 6 place b (s .sad3);
+      sad4 = storeWord 8 place b (s .sad4);
     }
 
 -- P1: CRX. P2: 7 CM, CRY
@@ -110,12 +111,12 @@ store command place b r =
       blocks = if command is Scroll then storeBlocks place b (r .blocks) else r .blocks;
       form = if command is CsrForm then storeForm place b (r .form) else r .form;
       overlay = if command is Ovlay then storeOverlay place b (r .overlay) else r .overlay;
-      cgram = if command is CgramAdr then word 0 place b (r .cgram) else r .cgram;
+      cgram = if command is CgramAdr then storeWord 0 place b (r .cgram) else r .cgram;
       hdot = if command is HdotScr && place =? 0 then bits 2 0 b else r .hdot;
       grey = if command is GrayScale && place =? 0 then bits 1 0 b else r .grey;
       cursor =
           record {
-            address = if command is Csrw then word 0 place b (r .cursor .address) else r .cursor .address;
+            address = if command is Csrw then storeWord 0 place b (r .cursor .address) else r .cursor .address;
             direction = r .cursor .direction;
           };
       asleep = if command is SystemSet && place =? 0 then false else r .asleep;

@@ -1,4 +1,4 @@
--- 01, 'Refusal numbers'.
+-- Reference, 'Refusals'; 01, 'Refusal numbers'.
 use Prim.Native.Nat.{ℕ}
 use Rattle.registers.specs.declared.Refusal.{Refusal}
 use Rattle.registers.specs.declared.Refusal.the-variants.{MemorySize, UnknownCommand, NothingWanted, NotAllowed, Asleep, NothingToRead, OutsideMemory, FontSize, GreyMode, CharacterWidth, RowWidth, OddLines, ShortLine, LayerOrder, CursorShape, RowNumber, BufferSize}

@@ -1,4 +1,4 @@
--- 01, 'Refusal numbers': the sizes that refusals 1 and 8 test.
+-- Reference, 'Refusals'; 01, 'Refusal numbers': the sizes that refusals 1 and 8 test.
 use Prim.Native.Nat.{ℕ}
 
 abbrev pub memorySize : ℕ

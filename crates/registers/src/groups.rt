@@ -5,7 +5,7 @@ use crate::Display;
 use crate::Overlay;
 use crate::System;
 ghost use mathlib.Core.Path.{_≡_};
-ghost use Rattle.registers.specs.Parameters.{withLow, withHigh, word, storeSystem, storeDisplay, storeBlocks, storeForm, storeOverlay, systemAllows, formAllows};
+ghost use Rattle.registers.specs.Parameters.{withLow, withHigh, storeWord, storeSystem, storeDisplay, storeBlocks, storeForm, storeOverlay, systemAllows, formAllows};
 
 // The two-byte register x with b as its low byte.
 fn with_low(x: u16, b: u8) -> u16
@@ -22,8 +22,8 @@ fn with_high(x: u16, b: u8) -> u16
 }
 
 // The two-byte register x after a parameter of a command that has no other.
-pub fn store_word(x: u16, place: u8, b: u8) -> u16
-    ensures { λ r. ⌜ r ≡ word 0 place b x ⌝ }
+pub(crate) fn store_word(x: u16, place: u8, b: u8) -> u16
+    ensures { λ r. ⌜ r ≡ storeWord 0 place b x ⌝ }
 {
     match place {
         0 => with_low(x, b),
@@ -33,7 +33,7 @@ pub fn store_word(x: u16, place: u8, b: u8) -> u16
 }
 
 impl System {
-    pub fn store(mut self, place: u8, b: u8) -> System
+    pub(crate) fn store(mut self, place: u8, b: u8) -> System
         ensures { λ r. ⌜ r ≡ storeSystem place b self ⌝ }
     {
         match place {
@@ -62,7 +62,7 @@ impl System {
         self
     }
 
-    pub fn allows(place: u8, b: u8) -> bool
+    pub(crate) fn allows(place: u8, b: u8) -> bool
         ensures { λ r. ⌜ r ≡ systemAllows place b ⌝ }
     {
         match place {
@@ -85,7 +85,7 @@ impl System {
 }
 
 impl Display {
-    pub fn store(mut self, place: u8, b: u8) -> Display
+    pub(crate) fn store(mut self, place: u8, b: u8) -> Display
         ensures { λ r. ⌜ r ≡ storeDisplay place b self ⌝ }
     {
         if place == 0 {
@@ -97,7 +97,7 @@ impl Display {
 }
 
 impl Blocks {
-    pub fn store(mut self, place: u8, b: u8) -> Blocks
+    pub(crate) fn store(mut self, place: u8, b: u8) -> Blocks
         ensures { λ r. ⌜ r ≡ storeBlocks place b self ⌝ }
     {
         match place {
@@ -118,7 +118,7 @@ impl Blocks {
 }
 
 impl CursorForm {
-    pub fn store(mut self, place: u8, b: u8) -> CursorForm
+    pub(crate) fn store(mut self, place: u8, b: u8) -> CursorForm
         ensures { λ r. ⌜ r ≡ storeForm place b self ⌝ }
     {
         match place {
@@ -136,7 +136,7 @@ impl CursorForm {
         self
     }
 
-    pub fn allows(place: u8, b: u8) -> bool
+    pub(crate) fn allows(place: u8, b: u8) -> bool
         ensures { λ r. ⌜ r ≡ formAllows place b ⌝ }
     {
         match place {
@@ -148,7 +148,7 @@ impl CursorForm {
 }
 
 impl Overlay {
-    pub fn store(mut self, place: u8, b: u8) -> Overlay
+    pub(crate) fn store(mut self, place: u8, b: u8) -> Overlay
         ensures { λ r. ⌜ r ≡ storeOverlay place b self ⌝ }
     {
         if place == 0 {

@@ -15,7 +15,7 @@ fn read_field(limit: u8, v: u8) -> u8
 }
 
 impl System {
-    pub fn in_layout(mut self) -> System
+    pub(crate) fn in_layout(mut self) -> System
         ensures { λ r. ⌜ r ≡ systemInLayout self ⌝ }
     {
         let fx = read_field(16, self.fx.0);
@@ -27,7 +27,7 @@ impl System {
 }
 
 impl Display {
-    pub fn in_layout(mut self) -> Display
+    pub(crate) fn in_layout(mut self) -> Display
         ensures { λ r. ⌜ r ≡ displayInLayout self ⌝ }
     {
         self.fp = read_field(64, self.fp);
@@ -37,7 +37,7 @@ impl Display {
 }
 
 impl CursorForm {
-    pub fn in_layout(mut self) -> CursorForm
+    pub(crate) fn in_layout(mut self) -> CursorForm
         ensures { λ r. ⌜ r ≡ formInLayout self ⌝ }
     {
         let crx = read_field(16, self.crx.0);
@@ -49,7 +49,7 @@ impl CursorForm {
 }
 
 impl Overlay {
-    pub fn in_layout(mut self) -> Overlay
+    pub(crate) fn in_layout(mut self) -> Overlay
         ensures { λ r. ⌜ r ≡ overlayInLayout self ⌝ }
     {
         self.mx = read_field(4, self.mx);

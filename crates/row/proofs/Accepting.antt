@@ -48,9 +48,9 @@ grey-code registers = go (registers .grey <? 3) (ltb-true (registers .grey) 3)
     go false f = omega arith
 
 -- what a row with no refusal has passed
-record Passed (r : Registers) (memory font n buffer : ℕ) : Type 0 where
-  memory-size : not (memory =? memorySize) ≡ false
-  font-size : not (font =? fontSize) ≡ false
+record Passed (r : Registers) (memoryLength fontLength n bufferLength : ℕ) : Type 0 where
+  memory-size : not (memoryLength =? memorySize) ≡ false
+  font-size : not (fontLength =? fontSize) ≡ false
   grey : greyMode (r .grey) (r .overlay) (r .system .fx) ≡ false
   narrow : (8 <? ⁅ r .system .fx ⁆) ≡ false
   fits : (640 <? width r) ≡ false
@@ -59,13 +59,13 @@ record Passed (r : Registers) (memory font n buffer : ℕ) : Type 0 where
   order : layerOrder (r .system .ws) (r .overlay) (r .blocks) ≡ false
   cursor : cursorShape (r .display .fc) (r .form) (r .system .fx) ≡ false
   below : (⁅ r .system .lf ⁆ ≤? n) ≡ false
-  whole : not (buffer =? width r) ≡ false
+  whole : not (bufferLength =? width r) ≡ false
 
-passes : (r : Registers) (memory font n buffer : ℕ) → rowRefusal r memory font n buffer ≡ 0 → Passed r memory font n buffer
+passes : (r : Registers) (memoryLength fontLength n bufferLength : ℕ) → rowRefusal r memoryLength fontLength n bufferLength ≡ 0 → Passed r memoryLength fontLength n bufferLength
 unfolding rowRefusal
-passes r memory font n buffer e =
-    let p1 = passed (not (memory =? memorySize)) 0 _ e in
-    let p8 = passed (not (font =? fontSize)) 7 _ (p1 .1) in
+passes r memoryLength fontLength n bufferLength e =
+    let p1 = passed (not (memoryLength =? memorySize)) 0 _ e in
+    let p8 = passed (not (fontLength =? fontSize)) 7 _ (p1 .1) in
     let p9 = passed (greyMode (r .grey) (r .overlay) (r .system .fx)) 8 _ (p8 .1) in
     let p10 = passed (8 <? ⁅ r .system .fx ⁆) 9 _ (p9 .1) in
     let p11 = passed (640 <? width r) 10 _ (p10 .1) in
@@ -74,7 +74,7 @@ passes r memory font n buffer e =
     let p14 = passed (layerOrder (r .system .ws) (r .overlay) (r .blocks)) 13 _ (p13 .1) in
     let p15 = passed (cursorShape (r .display .fc) (r .form) (r .system .fx)) 14 _ (p14 .1) in
     let p16 = passed (⁅ r .system .lf ⁆ ≤? n) 15 _ (p15 .1) in
-    let p17 = passed (not (buffer =? width r)) 16 _ (p16 .1) in
+    let p17 = passed (not (bufferLength =? width r)) 16 _ (p16 .1) in
     record {
       memory-size = p1 .0;
       font-size = p8 .0;
@@ -89,38 +89,38 @@ passes r memory font n buffer e =
       whole = p17 .0;
     }
 
-pub record Composed (r : Registers) (n buffer : ℕ) : Type 0 where
+pub record Composed (r : Registers) (n bufferLength : ℕ) : Type 0 where
   pub below : n < ⁅ r .system .lf ⁆
-  pub whole : buffer ≡ width r
+  pub whole : bufferLength ≡ width r
   pub composable : Composable r
 
-pub accepted : (r : Registers) → r .grey < 3 → (memory font n buffer : ℕ) → rowRefusal r memory font n buffer ≡ 0 → Composed r n buffer
-accepted r code memory font n buffer e =
-    let p = passes r memory font n buffer e in
+pub accepted : (r : Registers) → r .grey < 3 → (memoryLength fontLength n bufferLength : ℕ) → rowRefusal r memoryLength fontLength n bufferLength ≡ 0 → Composed r n bufferLength
+accepted r code memoryLength fontLength n bufferLength e =
+    let p = passes r memoryLength fontLength n bufferLength e in
     record {
       below = leb-false ⁅ r .system .lf ⁆ n (p .below);
-      whole = eqb-true buffer (width r) (not-false (buffer =? width r) (p .whole));
+      whole = eqb-true bufferLength (width r) (not-false (bufferLength =? width r) (p .whole));
       composable = record { code = code; narrow = ltb-false 8 ⁅ r .system .fx ⁆ (p .narrow); graphics = grey-graphics r (p .grey); order = p .order };
     }
 
 -- an accepted row has at most 640 dots
-pub accepted-width : (r : Registers) (memory font n buffer : ℕ) → rowRefusal r memory font n buffer ≡ 0 → width r ≤ 640
-accepted-width r memory font n buffer e = ltb-false 640 (width r) (passes r memory font n buffer e .fits)
+pub accepted-width : (r : Registers) (memoryLength fontLength n bufferLength : ℕ) → rowRefusal r memoryLength fontLength n bufferLength ≡ 0 → width r ≤ 640
+accepted-width r memoryLength fontLength n bufferLength e = ltb-false 640 (width r) (passes r memoryLength fontLength n bufferLength e .fits)
 
 -- the rows of a frame are accepted together
-pub other-row : (r : Registers) (memory font n k buffer : ℕ) → rowRefusal r memory font n buffer ≡ 0 → k < ⁅ r .system .lf ⁆ → rowRefusal r memory font k buffer ≡ 0
+pub other-row : (r : Registers) (memoryLength fontLength n k bufferLength : ℕ) → rowRefusal r memoryLength fontLength n bufferLength ≡ 0 → k < ⁅ r .system .lf ⁆ → rowRefusal r memoryLength fontLength k bufferLength ≡ 0
 unfolding rowRefusal
-other-row r memory font n k buffer e h =
-    let p = passes r memory font n buffer e in
+other-row r memoryLength fontLength n k bufferLength e h =
+    let p = passes r memoryLength fontLength n bufferLength e in
     rw (p .memory-size, p .font-size, p .grey, p .narrow, p .fits, p .even, p .long, p .order, p .cursor, lt-leb ⁅ r .system .lf ⁆ k h, p .whole)
 
 -- a row that is too wide is refused whatever its buffer
-pub wide-refused : (r : Registers) (memory font n : ℕ) → 640 < width r
-    → ((b : ℕ) → rowRefusal r memory font n b ≡ rowRefusal r memory font n (width r)) × (rowRefusal r memory font n (width r) ≡ 0 → ⊥)
+pub wide-refused : (r : Registers) (memoryLength fontLength n : ℕ) → 640 < width r
+    → ((b : ℕ) → rowRefusal r memoryLength fontLength n b ≡ rowRefusal r memoryLength fontLength n (width r)) × (rowRefusal r memoryLength fontLength n (width r) ≡ 0 → ⊥)
 unfolding rowRefusal
-wide-refused r memory font n h =
+wide-refused r memoryLength fontLength n h =
     let w = lt-ltb 640 (width r) h in
-    (λ b. rw w, λ e. absurd (subst T (sym w ∙ passes r memory font n (width r) e .fits) tt))
+    (λ b. rw w, λ e. absurd (subst T (sym w ∙ passes r memoryLength fontLength n (width r) e .fits) tt))
 
 -- the outcome of a row with a memory or a font of another size, of an accepted row, and of a refused one
 

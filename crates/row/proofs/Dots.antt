@@ -22,7 +22,7 @@ use Rattle.row.specs.Flashing.{cursorOn}
 use Rattle.row.specs.Cursor.{inShape, hasCursor, inverted}
 use Rattle.row.specs.Mixing.{firstOf, mix}
 use Rattle.row.specs.Dots.{bitsPerDot, dotsPerColumn, perColumn, width, dotOf, columnDot, shownDot, dot, table, dots}
-use Rattle.row.specs.Columns.{lineAddress, layerSource, columnSetup, firstBits, cursorRow, cursorMask, cursorRowOf, invertedByte, firstPairs, firstNibbles, firstByte, mixByte, columnByte, columnsDot, Room, Composable}
+use Rattle.row.specs.Columns.{lineAddress, layerSource, columnSetup, firstBits, cursorRow, cursorMask, cursorRowOf, invertedByte, firstPairs, firstNibbles, firstByte, mixByte, columnByte, columnsDot, DotsFit, Composable}
 use Rattle.row.proofs.Tables.{same-table, lt-or-le}
 use Rattle.row.proofs.LayerBytes.{source-layer, graphics-layer, second-graphics, third-graphics}
 
@@ -95,7 +95,7 @@ dot-nibbles a b c =
     (simp div-one (omega (arith, first-mod 16 a b c (omega arith))))
 
 -- dot j of the n of a column
-mix-first : (grey n a b c j : ℕ) → Room grey n → j < n
+mix-first : (grey n a b c j : ℕ) → DotsFit grey n → j < n
     → dotOf (2 ^ grey) (firstByte grey a b c) j ≡ firstOf (dotOf (2 ^ grey) a j) (dotOf (2 ^ grey) b j) (dotOf (2 ^ grey) c j)
 unfolding firstByte
 mix-first zero n a b c j h l =
@@ -105,7 +105,7 @@ mix-first (suc zero) n a b c j h l = dot-pairs a b c j (rw (h .two refl) at l)
 mix-first (suc (suc zero)) n a b c j h l = dot-nibbles a b c j (rw (h .four refl) at l)
 mix-first (suc (suc (suc g))) n a b c j h l = absurd (let z = h .code in omega arith)
 
-mix-dots : (mx grey n a b c j : ℕ) → Room grey n → j < n
+mix-dots : (mx grey n a b c j : ℕ) → DotsFit grey n → j < n
     → dotOf (2 ^ grey) (mixByte mx grey a b c) j ≡ mix mx (dotOf (2 ^ grey) a j) (dotOf (2 ^ grey) b j) (dotOf (2 ^ grey) c j)
 unfolding mixByte mix
 mix-dots mx grey n a b c j h l = go (mx =? 0) (mx =? 1) (mx =? 2)
@@ -214,17 +214,17 @@ cursor-dots r frame (Block block q) c a j h low =
 
 -- Columns and rows
 
-column-dot : (r : Registers) (memory font : List ℕ) (frame n c j p : ℕ) → Composable r → Room (r .grey) p → j < p
+column-dot : (r : Registers) (memory font : List ℕ) (frame n c j p : ℕ) → Composable r → DotsFit (r .grey) p → j < p
     → dotOf (bitsPerDot (r .grey)) (columnByte (columnSetup r) (layerSource r (layer1 r n) frame) (layerSource r (layer2 r n) frame) (layerSource r (layer3 r n) frame) (cursorRowOf r (layer1 r n) frame) memory font c) j
     ≡ columnDot r memory font frame n c j
 unfolding columnByte columnDot
-column-dot r memory font frame n c j p h room l =
-    mix-dots (r .overlay .mx) (r .grey) p _ _ _ j room l
-    ∙ rw (cursor-dots r frame (layer1 r n) c _ j h (λ e. let z = room .one e in omega arith), source-layer r memory font frame (layer1 r n) c, graphics-layer r memory font frame (layer2 r n) c (second-graphics r n h), graphics-layer r memory font frame (layer3 r n) c (third-graphics r n))
+column-dot r memory font frame n c j p h fit l =
+    mix-dots (r .overlay .mx) (r .grey) p _ _ _ j fit l
+    ∙ rw (cursor-dots r frame (layer1 r n) c _ j h (λ e. let z = fit .one e in omega arith), source-layer r memory font frame (layer1 r n) c, graphics-layer r memory font frame (layer2 r n) c (second-graphics r n h), graphics-layer r memory font frame (layer3 r n) c (third-graphics r n))
 
-pub columns-room : (r : Registers) → Composable r → (0 < perColumn r) × Room (r .grey) (perColumn r)
+pub columns-fit : (r : Registers) → Composable r → (0 < perColumn r) × DotsFit (r .grey) (perColumn r)
 unfolding dotsPerColumn
-columns-room r h = (
+columns-fit r h = (
   go (r .grey) (h .code),
   record {
     code = h .code;
@@ -246,7 +246,7 @@ pub row-dots : (r : Registers) (memory font : List ℕ) (frame n : ℕ) → Comp
     ≡ table (width r) (shownDot r memory font frame n)
 unfolding columnsDot shownDot
 row-dots r memory font frame n h =
-    let k = columns-room r h in
+    let k = columns-fit r h in
     same-table (width r) _ _ (λ x l. column-dot r memory font frame n (x / perColumn r) (x % perColumn r) (perColumn r) h (k .1) (mod-lt x (k .0)))
 
 -- The whole row: shown, and with D = 0 or asleep

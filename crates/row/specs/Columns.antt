@@ -47,7 +47,7 @@ abbrev pub columnSetup : Registers → ColumnSetup
 columnSetup r =
     record { m0 = r .system .m0; m2 = r .system .m2; cgram = r .cgram; mx = r .overlay .mx; grey = r .grey; cursor = r .cursor .address }
 
--- a byte of a layer without text
+-- a byte of layer 2 or 3, where text cannot come
 unfoldable pub graphicsByte : Source → List ℕ → ℕ → ℕ
 graphicsByte Blank memory c = 0
 graphicsByte (Graphics start) memory c = fetch memory (start + c)
@@ -82,7 +82,7 @@ cursorRowOf r (Block block q) frame =
 unfoldable pub invertedByte : CursorRow → ℕ → ℕ → ℕ → ℕ
 invertedByte k cursor c a = if (k .start + c) % 65536 =? cursor then bitXor a (k .mask) else a
 
--- the first that isn't 0, for each pair of bits, and for each half of a byte
+-- the first that isn't 0, for each pair of bits, and for each half of a byte; it is below 4, or 16, without the outer remainder
 unfoldable pub firstPairs : ℕ → ℕ → ℕ → ℕ
 firstPairs a b c =
     firstOf (a / 64 % 4) (b / 64 % 4) (c / 64 % 4) % 4 * 64 + firstOf (a / 16 % 4) (b / 16 % 4) (c / 16 % 4) % 4 * 16
@@ -127,7 +127,7 @@ firstRefusal k =
     else 0
 
 -- n dots are what a byte gives at a grey code
-pub record Room (grey n : ℕ) : Type 0 where
+pub record DotsFit (grey n : ℕ) : Type 0 where
   pub code : grey < 3
   pub one : grey ≡ 0 → n ≤ 8
   pub two : grey ≡ 1 → n ≡ 4

@@ -1,4 +1,4 @@
--- 01, 'Blocks and layers of a row': the cursor.
+-- Reference, 'The cursor in a row'; 01, 'Blocks and layers of a row': the cursor.
 use Prim.Native.Nat.{ℕ, _-_, _%_}
 use mathlib.Core.Bool.{Bool, false, not, _&&_}
 use Rattle.registers.specs.declared.CursorForm.{CursorForm}

@@ -1,4 +1,4 @@
--- 01, 'Blocks and layers of a row': the dots of a row.
+-- Reference, 'Rows' and 'Width'; 01, 'Blocks and layers of a row': the dots of a row.
 use Prim.Native.Nat.{ℕ, zero, suc, _+_, _-_, _*_, _/_, _%_, _^_}
 use mathlib.Core.Bool.{not, _&&_}
 use mathlib.Core.List.{List, [], _∷_}

@@ -1,4 +1,4 @@
--- 01, 'Blocks and layers of a row': flashing.
+-- Reference, 'Flashing'; 01, 'Blocks and layers of a row': flashing.
 use Prim.Native.Nat.{ℕ, _*_, _%_}
 use mathlib.Core.Bool.{Bool, true, false}
 use Rattle.choice.specs.Choice.{if_then_else_, _<?_, _=?_}

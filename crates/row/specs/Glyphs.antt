@@ -1,4 +1,4 @@
--- 01, 'Blocks and layers of a row': what a block's bytes are fetched from.
+-- Reference, 'Glyphs'; 01, 'Blocks and layers of a row': what a block's bytes are fetched from.
 use Prim.Native.Nat.{ℕ, _+_, _-_, _*_, _/_, _%_}
 use mathlib.Core.Bool.{Bool, _||_}
 use mathlib.Core.List.{List}

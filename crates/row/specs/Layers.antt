@@ -1,4 +1,4 @@
--- 01, 'Blocks and layers of a row': which block each layer shows on a row.
+-- Reference, 'Blocks and layers'; 01, 'Blocks and layers of a row': which block each layer shows on a row.
 use Prim.Native.Nat.{ℕ, _-_, _/_}
 use mathlib.Core.Bool.{Bool, false, not, _&&_}
 use Rattle.registers.specs.declared.Code.{Code}

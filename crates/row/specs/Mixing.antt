@@ -1,4 +1,4 @@
--- 01, 'Blocks and layers of a row': MX, on dot values.
+-- Reference, 'Mixing'; 01, 'Blocks and layers of a row': MX, on dot values.
 use Prim.Native.Nat.{ℕ}
 use lib.Bits.{bitAnd, bitOr, bitXor}
 use Rattle.choice.specs.Choice.{if_then_else_, _=?_}

@@ -1,4 +1,4 @@
--- 01, 'Refusal numbers': a row tests 1, then 8 to 17 in number order.
+-- Reference, 'Refusals'; 01, 'Refusal numbers': a row tests 1, then 8 to 17 in number order.
 use Prim.Native.Nat.{ℕ, _+_, _%_}
 use mathlib.Core.Bool.{Bool, not, _&&_, _||_}
 use Rattle.registers.specs.declared.Code.{Code}
@@ -28,12 +28,12 @@ layerOrder ws o b = not ws && not (threeLayers ws o) && b .sl2 .0 <? b .sl1 .0 &
 unfoldable pub cursorShape : ℕ → CursorForm → Code → Bool
 cursorShape fc f fx = not (fc =? 0) && (f .cry .0 =? 0 || ⁅ fx ⁆ <? ⁅ f .crx ⁆)
 
--- the refusal of row n, or 0; memory, font and buffer are their lengths
+-- the refusal of row n, or 0
 unfoldable pub rowRefusal : Registers → ℕ → ℕ → ℕ → ℕ → ℕ
-rowRefusal r memory font n buffer =
+rowRefusal r memoryLength fontLength n bufferLength =
     let s = r .system in
-    if not (memory =? memorySize) then 1
-    else if not (font =? fontSize) then 8
+    if not (memoryLength =? memorySize) then 1
+    else if not (fontLength =? fontSize) then 8
     else if greyMode (r .grey) (r .overlay) (s .fx) then 9
     else if 8 <? ⁅ s .fx ⁆ then 10
     else if 640 <? width r then 11
@@ -42,5 +42,5 @@ rowRefusal r memory font n buffer =
     else if layerOrder (s .ws) (r .overlay) (r .blocks) then 14
     else if cursorShape (r .display .fc) (r .form) (s .fx) then 15
     else if ⁅ s .lf ⁆ ≤? n then 16
-    else if not (buffer =? width r) then 17
+    else if not (bufferLength =? width r) then 17
     else 0

@@ -1,4 +1,4 @@
--- 01, 'Refusal numbers' and 'Blocks and layers of a row': what asking for a row gives.
+-- Reference, 'Rows'; 01, 'Refusal numbers' and 'Blocks and layers of a row': what asking for a row gives.
 use Prim.Native.Nat.{ℕ}
 use mathlib.Core.List.{List, []}
 use lib.ListN.{length}
@@ -21,11 +21,11 @@ pub record RowAnswer : Type 0 where
   pub refusal : ℕ
   pub dots : List ℕ
 
--- row n of a frame, asked with a buffer of a length
+-- row n of a frame
 unfoldable pub rowAnswer : Registers → List ℕ → List ℕ → ℕ → ℕ → ℕ → RowAnswer
-rowAnswer registers memory font frame n buffer =
+rowAnswer registers memory font frame n bufferLength =
     let r = inLayout registers in
-    let refusal = rowRefusal r (length memory) (length font) n buffer in
+    let refusal = rowRefusal r (length memory) (length font) n bufferLength in
     record { refusal = refusal; dots = if refusal =? 0 then dots r memory font frame n else [] }
 
 -- what is left in the buffer: the row's dots; a refused row's buffer stands

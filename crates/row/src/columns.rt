@@ -6,11 +6,12 @@ use crate::mixing::mix_byte;
 use crate::sources::graphics_byte;
 use crate::sources::source_byte;
 use crate::spreading::spread;
+use registers::Count;
 ghost use Prim.Native.Nat.{_*_, _<_};
 ghost use mathlib.Core.Path.{_≡_};
 ghost use lib.ListN.{length};
 ghost use Rattle.row.specs.Dots.{table};
-ghost use Rattle.row.specs.Columns.{Room, invertedByte, columnByte, columnsDot};
+ghost use Rattle.row.specs.Columns.{DotsFit, invertedByte, columnByte, columnsDot};
 
 // The byte of layer 1 with the cursor's bits inverted.
 fn invert(k: CursorRow, cursor: u16, c: u16, a: u8) -> u8
@@ -50,17 +51,17 @@ pub fn columns(
     cursor: CursorRow,
     memory: &[u8],
     font: &[u8],
-    count: u16,
+    count: Count,
     per: usize,
     out: &mut [u8],
 )
-    requires { ⌜ (length (now out) ≡ count * per) × (0 < per) × Room (k .grey) per ⌝ }
-    ensures { λ _. ⌜ now (out .exit) ≡ table (count * per) (columnsDot k one two three cursor (now (memory .entry)) (now (font .entry)) per) ⌝ }
+    requires { ⌜ (length (now out) ≡ count .0 * per) × (0 < per) × DotsFit (k .grey) per ⌝ }
+    ensures { λ _. ⌜ now (out .exit) ≡ table (count .0 * per) (columnsDot k one two three cursor (now (memory .entry)) (now (font .entry)) per) ⌝ }
 {
     let grey = k.grey;
     let mut c: u16 = 0;
     let mut at: usize = 0;
-    while c < count {
+    while c < count.0 {
         let b = column(k, one, two, three, cursor, memory, font, c);
         let end = at + per;
         spread(grey, b, &mut out[at..end]);

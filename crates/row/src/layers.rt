@@ -105,10 +105,10 @@ pub fn layer2(r: Registers, n: u16) -> LayerRow
     if three_layers(s.ws, r.overlay) {
         return LayerRow::Block(2, n);
     }
-    if b.sl1.0 <= b.sl2.0 {
-        return LayerRow::Block(2, n);
+    if b.sl2.0 < b.sl1.0 {
+        return split(2, b.sl2, n);
     }
-    split(2, b.sl2, n)
+    LayerRow::Block(2, n)
 }
 
 pub fn layer3(r: Registers, n: u16) -> LayerRow

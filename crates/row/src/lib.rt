@@ -15,12 +15,12 @@ pub use rows::compose;
 pub use rows::frame_size;
 
 // What a layer shows on a row: nothing, or a row of a block, counted from the block's first.
-pub enum LayerRow {
+pub(crate) enum LayerRow {
     Nothing,
     Block(u8, u16),
 }
 
-// Where a code's glyph comes from: nowhere, a glyph of the font, or CG RAM.
+// Where a code's glyph comes from: nowhere, a glyph of the font, or CG RAM. Public, as the table of edges names it.
 pub enum Glyph {
     Empty,
     Font(u8),
@@ -28,20 +28,20 @@ pub enum Glyph {
 }
 
 // What a layer's row fetches: nothing, the bytes from an address on, or a glyph row of the codes from an address on.
-pub enum Source {
+pub(crate) enum Source {
     Blank,
     Graphics(u16),
     Text(u16, u8),
 }
 
 // The cursor on a row: the address of the row's first code, and the bits that it inverts in its cell.
-pub struct CursorRow {
+pub(crate) struct CursorRow {
     pub start: u16,
     pub mask: u8,
 }
 
 // What every column of a row reads of the registers.
-pub struct ColumnSetup {
+pub(crate) struct ColumnSetup {
     pub m0: bool,
     pub m2: bool,
     pub cgram: u16,
@@ -57,7 +57,7 @@ pub struct FrameSize {
 }
 
 // Which refusals of a row apply, once memory and font have their sizes.
-pub struct RowChecks {
+pub(crate) struct RowChecks {
     pub grey_mode: bool,
     pub character_width: bool,
     pub row_width: bool,

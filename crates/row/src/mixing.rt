@@ -3,6 +3,7 @@ ghost use mathlib.Core.Path.{_≡_};
 ghost use Rattle.row.specs.Mixing.{firstOf};
 ghost use Rattle.row.specs.Columns.{firstPairs, firstNibbles, mixByte};
 
+// The first that is not 0.
 fn first_of(a: u8, b: u8, c: u8) -> u8
     ensures { λ r. ⌜ r ≡ firstOf a b c ⌝ }
 {
@@ -15,6 +16,7 @@ fn first_of(a: u8, b: u8, c: u8) -> u8
     a
 }
 
+// The first that is not 0 of each pair of bits. `% 4` changes nothing: by it each term is seen to fit, and so the sum.
 fn first_pairs(a: u8, b: u8, c: u8) -> u8
     ensures { λ r. ⌜ r ≡ firstPairs a b c ⌝ }
 {
@@ -24,6 +26,7 @@ fn first_pairs(a: u8, b: u8, c: u8) -> u8
         + first_of(a % 4, b % 4, c % 4) % 4
 }
 
+// The first that is not 0 of each half of the bytes, `% 16` as `% 4` above.
 fn first_nibbles(a: u8, b: u8, c: u8) -> u8
     ensures { λ r. ⌜ r ≡ firstNibbles a b c ⌝ }
 {

@@ -127,10 +127,10 @@ impl RowChecks {
     }
 }
 
-// The answer to row n in a buffer of a length, with memory and font of their sizes. An accepted row number fits 16 bits.
-pub fn row_answer(r: Registers, n: u32, buffer: usize) -> Answer
+// The answer to row n, with memory and font of their sizes. An accepted row number fits 16 bits.
+pub fn row_answer(r: Registers, n: u32, buffer_length: usize) -> Answer
     requires { ⌜ r .grey < 3 ⌝ }
-    ensures { λ a. ⌜ reply a .refusal ≡ rowRefusal r memorySize fontSize n buffer ⌝ }
+    ensures { λ a. ⌜ reply a .refusal ≡ rowRefusal r memorySize fontSize n «buffer_length» ⌝ }
     ensures { λ a. ⌜ (reply a .refusal ≡ 0 → n < 65536) ⌝ }
 {
     let s = r.system;
@@ -144,7 +144,7 @@ pub fn row_answer(r: Registers, n: u32, buffer: usize) -> Answer
         layer_order: layer_order(s.ws, r.overlay, r.blocks),
         cursor_shape: cursor_shape(r.display.fc, r.form, s.fx),
         row_number: s.lf.count().0 as u32 <= n,
-        buffer_size: buffer != width,
+        buffer_size: buffer_length != width,
     };
     checks.answer()
 }

@@ -61,7 +61,7 @@ fn paint(r: Registers, memory: &[u8], font: &[u8], frame: u32, n: u16, out: &mut
         cursor,
         memory,
         font,
-        count.0,
+        count,
         per,
         out,
     );

@@ -56,7 +56,8 @@ pub fn layer_source(r: Registers, layer: LayerRow, frame: u32) -> Source
     }
 }
 
-// The byte of a source at column c in a layer without text.
+// The byte of a source at column c in layer 2 or 3. Text cannot come: of their blocks block 3 alone may be text, and they show it with
+// DM = 11 alone (three layers, or refusal 14).
 pub fn graphics_byte(from: Source, memory: &[u8], c: u16) -> u8
     ensures { λ r. ⌜ r ≡ graphicsByte from (now (memory .entry)) c ⌝ }
 {

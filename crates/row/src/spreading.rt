@@ -3,7 +3,7 @@ ghost use Prim.Native.Nat.{_≤_, _^_};
 ghost use mathlib.Core.Path.{_≡_};
 ghost use lib.ListN.{length};
 ghost use Rattle.row.specs.Dots.{table, dotOf};
-ghost use Rattle.row.specs.Columns.{Room};
+ghost use Rattle.row.specs.Columns.{DotsFit};
 
 // The first dots of a byte at one bit a dot.
 fn spread_bits(b: u8, out: &mut [u8])
@@ -52,7 +52,7 @@ fn spread_nibbles(b: u8, out: &mut [u8])
 
 // The dots of a byte at a grey code.
 pub fn spread(grey: u8, b: u8, out: &mut [u8])
-    requires { ⌜ Room grey (length (now out)) ⌝ }
+    requires { ⌜ DotsFit grey (length (now out)) ⌝ }
     ensures { λ _. ⌜ now (out .exit) ≡ table (length (now (out .entry))) (dotOf (2 ^ grey) b) ⌝ }
 {
     if grey == 0 {

@@ -17,4 +17,5 @@ command-write-spec =
     (λ c κs. search needs)
     (λ c. let p = c .before .before .before in λ memory. rw (c .ended2 .ensures, ← p .before .before .of .ensures, sym (p .before .is .ensures) ∙ p .if1 .left, sym (c .before .before .ignored .ensures) ∙ c .before .if2 .taken))
     (λ c κs. search needs)
-    (λ c. let p = c .before .before .before in λ memory. rw (c .begin .ensures, ← p .before .before .of .ensures, sym (p .before .is .ensures) ∙ p .if1 .left, sym (c .before .before .ignored .ensures) ∙ c .before .if2 .left)))
+    (λ c κs. search needs)
+    (λ c. let q = c .before .before in let p = q .before .before in λ memory. rw (c .with-pending .ensures, c .before .begin .ensures, ← p .before .before .of .ensures, sym (p .before .is .ensures) ∙ p .if1 .left, sym (q .before .ignored .ensures) ∙ q .if2 .left)))

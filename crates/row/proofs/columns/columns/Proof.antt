@@ -6,25 +6,25 @@ use native.Mathlib.Nat.{zero-mul}
 use borrow.Author.Count.{below-none}
 use lib.ListN.{length, getD}
 use Rattle.row.specs.Dots.{dotOf}
-use Rattle.row.specs.Columns.{columnByte, columnsDot, Room}
+use Rattle.row.specs.Columns.{columnByte, columnsDot, DotsFit}
 use Rattle.row.proofs.Tables.{is-table, table-part, column-room, column-next, part-length, at-column}
 use Rattle.row.proofs.columns.columns.Statement.{statement}
 use Rattle.row.proofs.columns.columns.Tie as tie
 
 abbrev Inv-loop : tie.InvT-loop
 Inv-loop k one two three cursor memory font count per out₀ grey c₀ at₀ out c at =
-    (c ≤ count) × (at ≡ c * per) × (length out ≡ length out₀)
+    (c ≤ count .0) × (at ≡ c * per) × (length out ≡ length out₀)
     × ((x : ℕ) → x < at → getD out x 0 ≡ columnsDot k one two three cursor memory font per x)
 
 abbrev μ-loop : tie.MeasureT-loop
-μ-loop k one two three cursor memory font count per out₀ grey c₀ at₀ out c at = count - c
+μ-loop k one two three cursor memory font count per out₀ grey c₀ at₀ out c at = count .0 - c
 
 -- a column's dots are within the row
-room : (c : tie.After-column Inv-loop μ-loop) → c .before .before .loop .at + c .before .before .before .before .before .before .args .per ≤ length (c .before .before .loop .out)
+room : (c : tie.After-column Inv-loop μ-loop) → let l = c .before .before .before in l .loop .at + l .before .before .before .before .args .per ≤ length (l .loop .out)
 room c =
-    let s = c .before .before .before .before .before .before in
-    let i = c .before .before .loop .inv in
-    omega (arith, column-room (s .args .per) (c .before .loop-test .taken), i .1, i .2, s .pre .0)
+    let l = c .before .before .before in
+    let s = l .before .before .before .before in
+    omega (arith, column-room (s .args .per) (c .before .if1 .taken), l .loop .inv .1, l .loop .inv .2, s .pre .0)
 
 loop-holds : tie.Need-loop-holds Inv-loop μ-loop
 loop-holds c = (zero-le, sym (zero-mul _), refl, below-none _)
@@ -33,7 +33,7 @@ column-requires : tie.Need-column-requires Inv-loop μ-loop
 column-requires c κs = search needs
 
 add-end : tie.Need-add-end Inv-loop μ-loop
-add-end c = omega (arith, room c, c .before .before .before .before .before .before .good)
+add-end c = omega (arith, room c, c .before .before .before .before .before .before .before .good)
 
 sub-spread : tie.Need-sub-spread Inv-loop μ-loop
 sub-spread c = omega arith
@@ -46,8 +46,9 @@ part-spread-end c = room c
 
 spread-requires : tie.Need-spread-requires Inv-loop μ-loop
 spread-requires c κs =
-    subst (Room (c .before .before .before .before .before .before .before .args .k .grey)) (sym (part-length (c .before .before .before .loop .out) _ _ (room (c .before))))
-    (c .before .before .before .before .before .before .before .pre .2)
+    let l = c .before .before .before .before in
+    let s = l .before .before .before .before in
+    subst (DotsFit (s .args .k .grey)) (sym (part-length (l .loop .out) _ _ (room (c .before)))) (s .pre .2)
 
 add-c : tie.Need-add-c Inv-loop μ-loop
 add-c c = omega arith
@@ -58,8 +59,9 @@ loop-less c = omega arith
 loop-again : tie.Need-loop-again Inv-loop μ-loop
 unfolding columnsDot
 loop-again c =
-    let l = c .before .before .before .before .before .before .loop in
-    let a = c .before .before .before .before .before .before .before .before .before .before .args in
+    let p = c .before .before .before .before .before .before .before in
+    let l = p .loop in
+    let a = p .before .before .before .before .args in
     let byte : ℕ → ℕ = columnByte (a .k) (a .one) (a .two) (a .three) (a .cursor) (a .memory .now) (a .font .now) in
     let dot : ℕ → ℕ → ℕ = λ x j. dotOf (2 ^ a .k .grey) (byte x) j in
     let r = room (c .before .before .before .before) in (
@@ -74,14 +76,14 @@ loop-again c =
     )
 
 same-length : tie.Need-same-length Inv-loop μ-loop
-same-length c = c .before .loop .inv .2
+same-length c = c .before .before .loop .inv .2
 
 returns : tie.Need-returns Inv-loop μ-loop
 returns c =
-    let l = c .before .loop in
-    let s = c .before .before .before .before .before in
-    let e : l .c ≡ s .args .count = omega (arith, l .inv .0, c .loop-test .left) in
-    let all : l .at ≡ s .args .count * s .args .per = l .inv .1 ∙ ap (λ (x : ℕ). x * s .args .per) e in
+    let l = c .before .before .loop in
+    let s = c .before .before .before .before .before .before in
+    let e : l .c ≡ s .args .count .0 = omega (arith, l .inv .0, c .if1 .left) in
+    let all : l .at ≡ s .args .count .0 * s .args .per = l .inv .1 ∙ ap (λ (x : ℕ). x * s .args .per) e in
     is-table _ _ (l .out) (l .inv .2 ∙ s .pre .0) (λ k lt. l .inv .3 k (rw all lt))
 
 pub columns-spec : {M : Type 1} → statement M

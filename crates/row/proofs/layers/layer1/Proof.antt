@@ -15,5 +15,5 @@ layer1-spec =
     (λ c κs. search needs)
     (λ c. rw (sym (c .before .three-layers .ensures) ∙ c .if2 .taken, c .before .before .if1 .left))
     (λ c κs. search needs)
-    (λ c. let p = c .before .before .before in let q = p .before in let u = q .before in rw (c .split .ensures, sym (q .three-layers .ensures) ∙ p .if2 .left, u .if1 .left, le-leb _ _ (c .before .if3 .taken)))
+    (λ c. let p = c .before .before .before in let q = p .before in let u = q .before in let b = u .before .before .before .args .r .blocks in rw (c .split .ensures, sym (q .three-layers .ensures) ∙ p .if2 .left, u .if1 .left, le-leb (b .sl1 .0) (b .sl2 .0) (c .before .if3 .taken)))
     (λ c. let p = c .before .before .before in let q = p .before in rw (sym (p .three-layers .ensures) ∙ c .before .before .if2 .left, q .if1 .left, lt-leb _ _ (c .if3 .left))))

@@ -1,5 +1,6 @@
 use Rattle.row.proofs.Addresses.{product}
-use native.Mathlib.Omega.{arith}
+use native.Mathlib.Nat.{lt-trans}
+use lib.Dec.{lit<}
 use borrow.Author.Needs.{needs}
 use Rattle.row.proofs.refusals.columns_width.Statement.{statement}
 use Rattle.row.proofs.refusals.columns_width.Tie as tie
@@ -10,5 +11,5 @@ columns-width-spec =
     (tie.spec
     (λ c κs. search needs)
     (λ c. search needs)
-    (λ c. omega (arith, product {a = c .before .count .result .0} {b = c .before .before .args .per} (search needs) (search needs)))
-    (λ c. rw (c .before .count .ensures)))
+    (λ c. record { fits = lt-trans (product (search needs) (search needs)) (lit< tt) })
+    (λ c. cc (c .before .count .ensures)))

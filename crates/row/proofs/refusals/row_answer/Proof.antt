@@ -10,7 +10,7 @@ use borrow.Author.Needs.{needs}
 use Rattle.row.proofs.refusals.row_answer.Statement.{statement}
 use Rattle.row.proofs.refusals.row_answer.Tie as tie
 
-refusal : (c : tie.After-answer) → let a = c .before .before .before .before .before .before .before .before .before .before .before .before .before .before .args in reply (c .answer .result) .refusal ≡ rowRefusal (a .r) memorySize fontSize (a .n) (a .buffer)
+refusal : (c : tie.After-answer) → let a = c .before .before .before .before .before .before .before .before .before .before .before .before .before .before .args in reply (c .answer .result) .refusal ≡ rowRefusal (a .r) memorySize fontSize (a .n) (a .buffer-length)
 unfolding rowRefusal firstRefusal width
 refusal c =
     let n = c .before .before in

@@ -1,6 +1,6 @@
 use mathlib.Core.Path.{_∙_}
 use Rattle.row.specs.Dots.{width}
-use Rattle.row.proofs.Dots.{columns-room, row-dots}
+use Rattle.row.proofs.Dots.{columns-fit, row-dots}
 use borrow.Author.Needs.{needs}
 use Rattle.row.proofs.rows.paint.Statement.{statement}
 use Rattle.row.proofs.rows.paint.Tie as tie
@@ -20,7 +20,7 @@ paint-spec =
     (λ c κs. search needs)
     (λ c κs. search needs)
     (λ c κs. search needs)
-    (λ c κs. let d = c .before .before .before .before .before .before .before .before in let s = d .before .before .before .before .before .before in rw (d .before .count .ensures, d .dots-per-column .ensures) (let k = columns-room (s .args .r) (s .pre .1) in (s .pre .0, k .0, k .1)))
+    (λ c κs. let d = c .before .before .before .before .before .before .before .before in let s = d .before .before .before .before .before .before in rw (d .before .count .ensures, d .dots-per-column .ensures) (let k = columns-fit (s .args .r) (s .pre .1) in (s .pre .0, k .0, k .1)))
     (λ c. search needs)
     (λ c.
     let k = c .before .before in

@@ -20,6 +20,7 @@ use reference::busfile;
 use std::path::Path;
 use std::process::ExitCode;
 use support::counts::Counts;
+use support::seeds;
 
 const SEEDS: u64 = 2_000;
 
@@ -50,25 +51,8 @@ fn write_seed(seed: u64, bus: &Path, font: &Path) -> Result<bool, String> {
 fn compare(program: &Path, first: u64, seeds: u64) -> Result<bool, String> {
     let program = program.canonicalize().map_err(|error| format!("{}: {}", program.display(), error))?;
     let folder = Folder::create().map_err(|error| format!("temporary folder: {}", error))?;
-    let mut counts = Counts::default();
-    let (mut passed, mut failed) = (0, 0);
-    for seed in first..first + seeds {
-        match compare_seed(&program, &folder.path, seed, &mut counts) {
-            Ok(()) => passed += 1,
-            Err(difference) => {
-                failed += 1;
-                println!("seed {}: {}", seed, difference);
-            }
-        }
-    }
-    counts.print();
-    if seeds >= SEEDS {
-        let (reached, missed) = counts.reached(&required::required());
-        passed += reached;
-        failed += missed;
-    }
-    println!("{} passed, {} failed", passed, failed);
-    Ok(failed == 0)
+    let required = if seeds >= SEEDS { Some(required::required()) } else { None };
+    Ok(seeds::run(first..first + seeds, required, |seed, counts| compare_seed(&program, &folder.path, seed, counts)))
 }
 
 fn compare_seed(program: &Path, folder: &Path, seed: u64, counts: &mut Counts) -> Result<(), String> {

@@ -15,7 +15,6 @@ mod required;
 mod watch;
 
 use std::process::ExitCode;
-use support::counts::Counts;
 
 const SEEDS: u64 = 20_000;
 
@@ -30,25 +29,8 @@ fn main() -> ExitCode {
             return ExitCode::FAILURE;
         }
     };
-    let mut counts = Counts::default();
-    let (mut passed, mut failed) = (0, 0);
-    for seed in first..first + seeds {
-        match compare::compare(&cases::generate(seed), &mut counts) {
-            Ok(()) => passed += 1,
-            Err(difference) => {
-                failed += 1;
-                println!("seed {}: {}", seed, difference);
-            }
-        }
-    }
-    counts.print();
-    if seeds >= SEEDS {
-        let (reached, missed) = counts.reached(&required::required());
-        passed += reached;
-        failed += missed;
-    }
-    println!("{} passed, {} failed", passed, failed);
-    if failed == 0 {
+    let required = if seeds >= SEEDS { Some(required::required()) } else { None };
+    if support::seeds::run(first..first + seeds, required, |seed, counts| compare::compare(&cases::generate(seed), counts)) {
         ExitCode::SUCCESS
     } else {
         ExitCode::FAILURE

@@ -4,4 +4,5 @@ pub mod counts;
 pub mod limits;
 pub mod random;
 pub mod records;
+pub mod seeds;
 pub mod setup;

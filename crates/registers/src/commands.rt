@@ -28,7 +28,7 @@ impl Command {
     }
 
     // Its code, the first of a range; 0, which is no code, of `None`.
-    fn code(self) -> u8
+    pub fn code(self) -> u8
         ensures { λ r. ⌜ r ≡ code self ⌝ }
     {
         match self {

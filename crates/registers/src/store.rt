@@ -15,7 +15,7 @@ ghost use Rattle.registers.specs.Parameters.{store, begin, directionOf, 
 
 impl Direction {
     // The direction of a byte from 4C to 4F; any other counts as the last.
-    fn of(b: u8) -> Direction
+    pub fn of(b: u8) -> Direction
         ensures { λ r. ⌜ r ≡ directionOf b ⌝ }
     {
         match b {

@@ -51,7 +51,8 @@ pub extern "C" fn exports_reset(controller: &mut [u8]) -> u32
 
 #[no_mangle]
 pub extern "C" fn exports_command_write(controller: &mut [u8], byte: u8) -> u32
-    ensures { λ r. ⌜ ((memory : List ℕ) → returned r (now (controller .exit)) memory ≡ afterCall (now (controller .entry)) memory (command byte)) ⌝ }
+    ensures { λ r. ⌜ ((memory : List ℕ) → returned r (now (controller .exit)) memory
+        ≡ afterCall (now (controller .entry)) memory (command byte)) ⌝ }
 {
     if is_saved(controller) {
         let c = read(controller);
@@ -65,7 +66,8 @@ pub extern "C" fn exports_command_write(controller: &mut [u8], byte: u8) -> u32
 
 #[no_mangle]
 pub extern "C" fn exports_data_write(controller: &mut [u8], memory: &mut [u8], byte: u8) -> u32
-    ensures { λ r. ⌜ returned r (now (controller .exit)) (now (memory .exit)) ≡ afterCall (now (controller .entry)) (now (memory .entry)) (write byte) ⌝ }
+    ensures { λ r. ⌜ returned r (now (controller .exit)) (now (memory .exit))
+        ≡ afterCall (now (controller .entry)) (now (memory .entry)) (write byte) ⌝ }
 {
     if is_saved(controller) {
         let c = read(controller);
@@ -79,7 +81,8 @@ pub extern "C" fn exports_data_write(controller: &mut [u8], memory: &mut [u8], b
 
 #[no_mangle]
 pub extern "C" fn exports_data_read(controller: &mut [u8], memory: &[u8]) -> u32
-    ensures { λ r. ⌜ returned r (now (controller .exit)) (now (memory .entry)) ≡ afterCall (now (controller .entry)) (now (memory .entry)) read ⌝ }
+    ensures { λ r. ⌜ returned r (now (controller .exit)) (now (memory .entry))
+        ≡ afterCall (now (controller .entry)) (now (memory .entry)) read ⌝ }
 {
     if is_saved(controller) {
         let c = read(controller);
@@ -94,7 +97,8 @@ pub extern "C" fn exports_data_read(controller: &mut [u8], memory: &[u8]) -> u32
 // Data writes, one after the other. The answer is that of the last one that is refused, 0 where none is.
 #[no_mangle]
 pub extern "C" fn exports_data_writes(controller: &mut [u8], memory: &mut [u8], bytes: &[u8]) -> u32
-    ensures { λ r. ⌜ returned r (now (controller .exit)) (now (memory .exit)) ≡ afterWrites (now (controller .entry)) (now (memory .entry)) (now (bytes .entry)) ⌝ }
+    ensures { λ r. ⌜ returned r (now (controller .exit)) (now (memory .exit))
+        ≡ afterWrites (now (controller .entry)) (now (memory .entry)) (now (bytes .entry)) ⌝ }
 {
     if is_saved(controller) {
         let mut c = read(controller);
@@ -123,7 +127,8 @@ pub extern "C" fn exports_row(
     row: u32,
     dots: &mut [u8],
 ) -> u32
-    ensures { λ r. ⌜ rowReturned r (now (dots .exit)) ≡ afterRow (now (controller .entry)) (now (memory .entry)) (now (font .entry)) frame row (now (dots .entry)) ⌝ }
+    ensures { λ r. ⌜ rowReturned r (now (dots .exit))
+        ≡ afterRow (now (controller .entry)) (now (memory .entry)) (now (font .entry)) frame row (now (dots .entry)) ⌝ }
 {
     if is_saved(controller) {
         let c = read(controller);

@@ -1,5 +1,5 @@
-// The lines that the program prints. Each is put whole behind the used bytes of a buffer, and the answer is how many are used then; one that does
-// not fit is left out whole.
+// The lines that the program prints. Each is put whole behind the used bytes of a buffer, and the answer is how many are used
+// then; one that does not fit is left out whole.
 mod pieces;
 
 ghost use mathlib.Core.Path.{_≡_};

@@ -75,8 +75,10 @@ fn put_numbers(line: &mut [u8], used: usize, numbers: &[u64]) -> usize
 // A line into the buffer: its name, at most four numbers, and how it ends.
 pub fn put_line(buffer: &mut [u8], used: usize, name: &[u8], numbers: &[u64], end: &[u8]) -> usize
     requires { ⌜ (length (now name) ≤ 7) × (length (now numbers) ≤ 4) × (length (now end) ≤ 4) ⌝ }
-    ensures { λ r. ⌜ r ≡ usedAfter (now (buffer .entry)) used (withNumbers (now (name .entry)) (now (numbers .entry)) ++ now (end .entry)) ⌝ }
-    ensures { λ _. ⌜ now (buffer .exit) ≡ appended (now (buffer .entry)) used (withNumbers (now (name .entry)) (now (numbers .entry)) ++ now (end .entry)) ⌝ }
+    ensures { λ r. ⌜ r
+        ≡ usedAfter (now (buffer .entry)) used (withNumbers (now (name .entry)) (now (numbers .entry)) ++ now (end .entry)) ⌝ }
+    ensures { λ _. ⌜ now (buffer .exit)
+        ≡ appended (now (buffer .entry)) used (withNumbers (now (name .entry)) (now (numbers .entry)) ++ now (end .entry)) ⌝ }
 {
     let mut line = [0u8; LONGEST];
     let k = put(&mut line, 0, name);

@@ -24,7 +24,8 @@ pub fn display_memory() -> [u8; 32768]
 fn turn(run: Run, memory: &mut [u8], font: &[u8], input: &mut [u8], out: &mut [u8]) -> Run
     requires { ⌜ InPart run (now input) ⌝ }
     ensures { λ r. ⌜ InPart r (now (input .exit)) ⌝ }
-    ensures { λ r. ⌜ ((start : Progress) (k : ℕ) → Done (now (font .entry)) start k run (now (memory .entry)) (now (out .entry)) (now (input .entry))
+    ensures { λ r. ⌜ ((start : Progress) (k : ℕ)
+        → Done (now (font .entry)) start k run (now (memory .entry)) (now (out .entry)) (now (input .entry))
         → Done (now (font .entry)) start (suc k) r (now (memory .exit)) (now (out .exit)) (now (input .exit))) ⌝ }
 {
     let run = fill(run, input);

@@ -21,7 +21,8 @@ pub fn input_buffer() -> [u8; 131072]
     [0; 131072]
 }
 
-// Reads the font file, and answers how many bytes came. One that cannot be opened counts as empty; one that fails midway, as what came of it.
+// Reads the font file, and answers how many bytes came. One that cannot be opened counts as empty, one that fails midway as
+// what came of it.
 pub fn read_font(font: &mut [u8]) -> usize
     ensures { λ r. ⌜ r ≤ length (now (font .exit)) ⌝ }
 {

@@ -56,7 +56,8 @@ pub fn columns(
     out: &mut [u8],
 )
     requires { ⌜ (length (now out) ≡ count .0 * per) × (0 < per) × DotsFit (k .grey) per ⌝ }
-    ensures { λ _. ⌜ now (out .exit) ≡ table (count .0 * per) (columnsDot k one two three cursor (now (memory .entry)) (now (font .entry)) per) ⌝ }
+    ensures { λ _. ⌜ now (out .exit)
+        ≡ table (count .0 * per) (columnsDot k one two three cursor (now (memory .entry)) (now (font .entry)) per) ⌝ }
 {
     let grey = k.grey;
     let mut c: u16 = 0;

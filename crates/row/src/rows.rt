@@ -105,7 +105,8 @@ pub fn compose(
     n: u32,
     out: &mut [u8],
 ) -> Answer
-    ensures { λ a. ⌜ composedOutcome a (now (out .exit)) ≡ rowOutcome registers (now (memory .entry)) (now (font .entry)) frame n (now (out .entry)) ⌝ }
+    ensures { λ a. ⌜ composedOutcome a (now (out .exit))
+        ≡ rowOutcome registers (now (memory .entry)) (now (font .entry)) frame n (now (out .entry)) ⌝ }
 {
     if memory.len() != MEMORY_SIZE {
         return Answer::Refused(Refusal::MemorySize);

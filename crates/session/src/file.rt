@@ -52,8 +52,8 @@ fn next_record(step: Step, memory: &mut [u8], font: &[u8], out: &mut [u8], file:
         (state (step .session) (now (memory .entry)) (now (out .entry))) ⌝ }
     ensures { λ r. ⌜ OpenAfter (step .session .output .open)
         (writesOut (buffer (now (out .entry)) (step .session .output .used))
-        (foundLines (following (step .good)) (machine (step .session .controller) (now (memory .entry))) (now (font .entry)) (now (file .entry))
-        (recordAt (now (file .entry)) (step .at))))
+        (foundLines (following (step .good)) (machine (step .session .controller) (now (memory .entry))) (now (font .entry))
+        (now (file .entry)) (recordAt (now (file .entry)) (step .at))))
         (r .session .output .open) ⌝ }
 {
     let at = step.at;

@@ -39,7 +39,8 @@ fn show_rows(
     requires { ⌜ frame .rows ≡ frameSize (s .controller .registers) .rows ⌝ }
     requires { ⌜ rowOf (machine (s .controller) (now memory)) (now font) (frame .number) (length (now row)) 0 .refusal ≡ 0 ⌝ }
     ensures { λ r. ⌜ Prints
-        (rowLines (rowOf (machine (s .controller) (now (memory .entry))) (now (font .entry)) (frame .number) (length (now (row .entry)))) 0 (frame .rows .0))
+        (rowLines (rowOf (machine (s .controller) (now (memory .entry))) (now (font .entry)) (frame .number) (length (now (row .entry))))
+        0 (frame .rows .0))
         (s .output) (now (out .entry)) r (now (out .exit)) ⌝ }
 {
     let controller = s.controller;

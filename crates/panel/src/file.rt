@@ -2,6 +2,7 @@
 use crate::Part;
 use crate::Run;
 use crate::reading::fill;
+use registers::MEMORY_SIZE;
 use session::Output;
 use session::Step;
 ghost use Prim.Native.Nat.{ℕ, suc, _≤_, _-_, _^_};
@@ -9,15 +10,16 @@ ghost use mathlib.Core.Path.{_≡_};
 ghost use lib.ListN.{length, replicate};
 ghost use Rattle.registers.specs.Sizes.{memorySize};
 ghost use Rattle.busfile.specs.Parts.{longestRecord};
+ghost use Rattle.lines.specs.Lines.{longestLine};
 ghost use Rattle.session.specs.File.{Progress, progress, startOf};
 ghost use Rattle.session.specs.Reading.{Ran};
 ghost use Rattle.panel.specs.Reading.{InPart, Done, RunsFile};
 
 // Cleared display memory.
-pub fn display_memory() -> [u8; 32768]
+pub fn display_memory() -> [u8; MEMORY_SIZE]
     ensures { λ r. ⌜ r ≡ replicate memorySize 0 ⌝ }
 {
-    [0; 32768]
+    [0; MEMORY_SIZE]
 }
 
 // Reads on, and carries the next record out.
@@ -67,8 +69,8 @@ fn run_records(memory: &mut [u8], font: &[u8], input: &mut [u8], out: &mut [u8])
 
 // All records, and the line that ends the output.
 pub fn run_file(memory: &mut [u8], font: &[u8], input: &mut [u8], out: &mut [u8]) -> Output
-    requires { ⌜ longestRecord ≤ length (now input) ⌝ }
-    ensures { λ r. ⌜ RunsFile (now (font .entry)) (now (memory .entry)) (now (out .entry)) r (now (memory .exit)) (now (out .exit)) ⌝ }
+    requires { ⌜ (longestRecord ≤ length (now input)) × (longestLine ≤ length (now out)) × (now memory ≡ replicate memorySize 0) ⌝ }
+    ensures { λ r. ⌜ RunsFile (now (font .entry)) (now (out .entry)) r (now (memory .exit)) (now (out .exit)) ⌝ }
 {
     let last = run_records(memory, font, input, out);
     session::finish(last, out)

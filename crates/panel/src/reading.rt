@@ -1,17 +1,21 @@
 // The font, and a bus file from standard input. It is read in parts, so that a file of any length runs in the same memory.
 use crate::Run;
 use libc::STDIN_FILENO;
-ghost use Prim.Native.Nat.{_≤_};
+use registers::FONT_SIZE;
+ghost use Prim.Native.Nat.{_+_, _≤_};
 ghost use mathlib.Core.Path.{_≡_};
 ghost use lib.ListN.{length, take};
+ghost use Rattle.registers.specs.Sizes.{fontSize};
 ghost use Rattle.busfile.specs.Parts.{longestRecord};
 ghost use Rattle.panel.specs.Reading.{InPart, Filled};
 
+const FONT_ROOM: usize = FONT_SIZE + 1;
+
 // Room for a font and a byte more: a longer file is no font.
-pub fn font_buffer() -> [u8; 1281]
-    ensures { λ r. ⌜ 1281 ≡ length r ⌝ }
+pub fn font_buffer() -> [u8; FONT_ROOM]
+    ensures { λ r. ⌜ fontSize + 1 ≡ length r ⌝ }
 {
-    [0; 1281]
+    [0; FONT_ROOM]
 }
 
 // Room for two records of any length.

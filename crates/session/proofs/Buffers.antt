@@ -8,7 +8,7 @@ use lib.ListN.{length}
 use borrow.Author.Tests.{lt-ltb, le-ltb}
 use Rattle.lines.specs.Lines.{appended, usedAfter, longestLine}
 use Rattle.session.specs.declared.Output.{Output}
-use Rattle.session.specs.Output.{Buffer, buffer, isFull, usedBefore, printed, printedAll, writesOut, OpenAfter, Prints}
+use Rattle.session.specs.Output.{Buffer, buffer, isFull, usedBefore, printed, printedAll, flushes, OpenAfter, Prints}
 
 pub written-out : (bytes : List ℕ) (used : ℕ) → length bytes < used + longestLine → (isFull (buffer bytes used) ≡ true) × (0 ≡ usedBefore (buffer bytes used))
 unfolding usedBefore
@@ -44,9 +44,9 @@ open-both v w (inl e) (inr f) = inr (or-true v (f .0), f .1)
 open-both v w (inr e) (inl f) = inr (rw (e .0), f ∙ e .1)
 open-both v w (inr e) (inr f) = inr (rw (e .0), f .1)
 
-pub writes-both : (b : Buffer) (xs ys : List (List ℕ)) → writesOut b (xs ++ ys) ≡ (writesOut b xs || writesOut (printedAll b xs) ys)
-writes-both b [] ys = refl
-writes-both b (x ∷ xs) ys = ap (λ (w : Bool). isFull b || w) (writes-both (printed b x) xs ys) ∙ or-assoc (isFull b) _ _
+pub flushes-both : (b : Buffer) (xs ys : List (List ℕ)) → flushes b (xs ++ ys) ≡ (flushes b xs || flushes (printedAll b xs) ys)
+flushes-both b [] ys = refl
+flushes-both b (x ∷ xs) ys = ap (λ (w : Bool). isFull b || w) (flushes-both (printed b x) xs ys) ∙ or-assoc (isFull b) _ _
 
 -- Lines that are printed
 
@@ -65,5 +65,5 @@ pub prints-both : (xs ys : List (List ℕ)) {o p q : Output} {a b c : List ℕ} 
 prints-both xs ys {o} {p} {q} {a} {b} {c} h k =
     record {
       text = k .text ∙ rw (h .text) (sym (printed-both (buffer a (o .used)) xs ys));
-      stays = rw writes-both (open-both _ _ (h .stays) (rw (h .text) at (k .stays)));
+      stays = rw flushes-both (open-both _ _ (h .stays) (rw (h .text) at (k .stays)));
     }

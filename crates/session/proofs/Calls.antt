@@ -10,14 +10,14 @@ use lib.ListN.{length, getD, drop, replicate}
 use lib.Seq.{drop-cons}
 use Rattle.model.specs.Machine.{Outcome}
 use Rattle.model.specs.Calls.{BusCall, command, write, read, call}
-use Rattle.session.specs.Output.{Buffer, printedAll, writesOut, OpenAfter}
+use Rattle.session.specs.Output.{Buffer, printedAll, flushes, OpenAfter}
 use Rattle.session.specs.Records.{busCalls, callLines}
 use Rattle.session.specs.Carrying.{Live, CarriesOutCalls}
-use Rattle.session.proofs.Buffers.{printed-both, writes-both, open-both}
+use Rattle.session.proofs.Buffers.{printed-both, flushes-both, open-both}
 
 -- a call whose outcome is known and whose lines are printed
 pub one-call : (r k : ℕ) (s : Live) (c : BusCall) {w : Outcome} {o : Buffer} {takes : Bool} → w ≡ call (s .state .machine) c
-    → o ≡ printedAll (s .state .output) (callLines r k c (w .reply)) → OpenAfter (s .takes) (writesOut (s .state .output) (callLines r k c (w .reply))) takes
+    → o ≡ printedAll (s .state .output) (callLines r k c (w .reply)) → OpenAfter (s .takes) (flushes (s .state .output) (callLines r k c (w .reply))) takes
     → CarriesOutCalls r k (c ∷ []) s (record { state = record { machine = w .machine; output = o }; takes = takes })
 one-call r k s c h e f = record { state = rw (e, h, append-nil); stays = rw (append-nil, ← h) f }
 
@@ -30,7 +30,7 @@ pub call-first : (r k : ℕ) (s : Live) (c : BusCall) (cs : List BusCall) {t u :
 call-first r k s c cs h rest =
     record {
       state = rest .state ∙ rw (h .state, append-nil, printed-both);
-      stays = rw writes-both (open-both _ _ (rw append-nil at (h .stays)) (rw (h .state, append-nil) at (rest .stays)));
+      stays = rw flushes-both (open-both _ _ (rw append-nil at (h .stays)) (rw (h .state, append-nil) at (rest .stays)));
     }
 
 -- one data byte more of a payload

@@ -6,7 +6,7 @@ use mathlib.Core.Path.{_≡_}
 use Rattle.model.specs.Calls.{BusCall}
 use Rattle.busfile.specs.declared.Kind.{Kind}
 use Rattle.session.specs.declared.Session.{Session}
-use Rattle.session.specs.Output.{writesOut, OpenAfter}
+use Rattle.session.specs.Output.{flushes, OpenAfter}
 use Rattle.session.specs.Records.{State, state, carriedOut, callsLines, recordCalls, recordLines}
 
 -- a state, and whether standard output takes bytes
@@ -20,7 +20,7 @@ live s memory out = record { state = state s memory out; takes = s .output .open
 -- calls are carried out, and lines are printed
 pub record CarriesOut (calls : List BusCall) (lines : List (List ℕ)) (s t : Live) : Type 0 where
   pub state : t .state ≡ carriedOut (s .state) calls lines
-  pub stays : OpenAfter (s .takes) (writesOut (s .state .output) lines) (t .takes)
+  pub stays : OpenAfter (s .takes) (flushes (s .state .output) lines) (t .takes)
 
 -- calls that are numbered from k on are carried out, and their lines are printed
 abbrev pub CarriesOutCalls : ℕ → ℕ → List BusCall → Live → Live → Type 0

@@ -10,7 +10,7 @@ use Rattle.lines.specs.Lines.{badLine}
 use Rattle.model.specs.Machine.{Machine}
 use Rattle.model.specs.Calls.{reset}
 use Rattle.session.specs.declared.Step.{Step}
-use Rattle.session.specs.Output.{buffer, printed}
+use Rattle.session.specs.Output.{buffer, printedAll}
 use Rattle.session.specs.Records.{State, state, afterRecord, recordLines}
 
 -- how far a file is: the state, where the next record stands, how many records were good, and whether the file goes on
@@ -42,7 +42,7 @@ foundLines r m font file (Record x) = recordLines r m font (x .kind) (partOf fil
 abbrev pub afterFound : List ℕ → List ℕ → ℕ → ℕ → Found → State → Progress
 afterFound font file at good End s = record { state = s; at = at; good = good; more = false }
 afterFound font file at good Bad s =
-    let stopped : State = record { machine = s .machine; output = printed (s .output) (badLine (following good)) } in
+    let stopped : State = record { machine = s .machine; output = printedAll (s .output) (foundLines (following good) (s .machine) font file Bad) } in
     record { state = stopped; at = at; good = good; more = false }
 afterFound font file at good (Record r) s =
     let done = afterRecord (following good) font (r .kind) (partOf file (r .start) (r .end)) s in

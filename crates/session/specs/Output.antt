@@ -33,9 +33,9 @@ printedAll b [] = b
 printedAll b (line ∷ lines) = printedAll (printed b line) lines
 
 -- whether the buffer is written out while lines are printed
-abbrev pub writesOut : Buffer → List (List ℕ) → Bool
-writesOut b [] = false
-writesOut b (line ∷ lines) = isFull b || writesOut (printed b line) lines
+abbrev pub flushes : Buffer → List (List ℕ) → Bool
+flushes b [] = false
+flushes b (line ∷ lines) = isFull b || flushes (printed b line) lines
 
 -- Whether standard output takes bytes, before and after. Only the system knows whether a write succeeds, so it may be closed where the buffer was
 -- written out; otherwise it stays as it was, and it never opens again
@@ -45,4 +45,4 @@ OpenAfter before written after = (after ≡ before) ⊎ ((written ≡ true) × (
 -- lines are printed
 pub record Prints (lines : List (List ℕ)) (o : Output) (bytes : List ℕ) (o′ : Output) (bytes′ : List ℕ) : Type 0 where
   pub text : buffer bytes′ (o′ .used) ≡ printedAll (buffer bytes (o .used)) lines
-  pub stays : OpenAfter (o .open) (writesOut (buffer bytes (o .used)) lines) (o′ .open)
+  pub stays : OpenAfter (o .open) (flushes (buffer bytes (o .used)) lines) (o′ .open)

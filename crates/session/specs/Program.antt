@@ -14,7 +14,7 @@ use Rattle.busfile.specs.Records.{recordAt, partOf}
 use Rattle.lines.specs.Lines.{endLine, longestLine}
 use Rattle.session.specs.Output.{buffer, printed, printedAll}
 use Rattle.session.specs.Records.{recordCalls}
-use Rattle.session.specs.File.{Progress, startOf, following, foundLines, nextStep}
+use Rattle.session.specs.File.{Progress, startOf, following, foundLines, nextStep, stepLines}
 use Rattle.session.specs.Stream.{held, writtenOut}
 
 -- the lines after those of what was found: a bad record and the end stop; last, always, `end COUNT`
@@ -38,6 +38,11 @@ programLines font file = linesFrom (length file + 1) font file (reset (replicate
 abbrev pub steps : ℕ → List ℕ → List ℕ → Progress → Progress
 steps zero font file p = p
 steps (suc k) font file p = steps k font file (nextStep font file p)
+
+-- the lines that they print
+abbrev pub stepsLines : ℕ → List ℕ → List ℕ → Progress → List (List ℕ)
+stepsLines zero font file p = []
+stepsLines (suc k) font file p = stepLines font file p ++ stepsLines k font file (nextStep font file p)
 
 -- With the last line all lines of the program are printed, each behind the one before it
 pub record PrintsAll (font file out : List ℕ) (p : Progress) : Type 0 where

@@ -15,7 +15,7 @@ ghost use mathlib.Core.Path.{_≡_};
 ghost use Rattle.busfile.specs.Records.{recordAt};
 ghost use Rattle.lines.specs.Lines.{endLine};
 ghost use Rattle.model.specs.Machine.{machine};
-ghost use Rattle.session.specs.Output.{buffer, printed, writesOut, OpenAfter};
+ghost use Rattle.session.specs.Output.{buffer, printed, flushes, OpenAfter};
 ghost use Rattle.session.specs.Records.{state};
 ghost use Rattle.session.specs.File.{progress, startOf, following, foundLines, afterFound, nextStep, stepLines};
 
@@ -51,7 +51,7 @@ fn next_record(step: Step, memory: &mut [u8], font: &[u8], out: &mut [u8], file:
         ≡ afterFound (now (font .entry)) (now (file .entry)) (step .at) (step .good) (recordAt (now (file .entry)) (step .at))
         (state (step .session) (now (memory .entry)) (now (out .entry))) ⌝ }
     ensures { λ r. ⌜ OpenAfter (step .session .output .open)
-        (writesOut (buffer (now (out .entry)) (step .session .output .used))
+        (flushes (buffer (now (out .entry)) (step .session .output .used))
         (foundLines (following (step .good)) (machine (step .session .controller) (now (memory .entry))) (now (font .entry))
         (now (file .entry)) (recordAt (now (file .entry)) (step .at))))
         (r .session .output .open) ⌝ }
@@ -96,7 +96,7 @@ pub fn next(step: Step, memory: &mut [u8], font: &[u8], out: &mut [u8], file: &[
     ensures { λ r. ⌜ progress r (now (memory .exit)) (now (out .exit))
         ≡ nextStep (now (font .entry)) (now (file .entry)) (progress step (now (memory .entry)) (now (out .entry))) ⌝ }
     ensures { λ r. ⌜ OpenAfter (step .session .output .open)
-        (writesOut (buffer (now (out .entry)) (step .session .output .used))
+        (flushes (buffer (now (out .entry)) (step .session .output .used))
         (stepLines (now (font .entry)) (now (file .entry)) (progress step (now (memory .entry)) (now (out .entry)))))
         (r .session .output .open) ⌝ }
 {

@@ -25,6 +25,12 @@ Inv-loop memory font out₀ row₀ frame controller o₀ n₀ out row o n =
 abbrev μ-loop : tie.MeasureT-loop
 μ-loop memory font out₀ row₀ frame controller o₀ n₀ out row o n = frame .rows .0 - n
 
+loop-holds : tie.Need-loop-holds Inv-loop μ-loop
+loop-holds c =
+    let a = c .before .before .before .before .before .before .args in
+    let answers : ℕ → RowAnswer = rowOf (machine (a .s .controller) (a .memory .now)) (a .font .now) (a .frame .number) (length (a .row .now)) in
+    (λ q left whole. subst (λ (k : ℕ). Prints (rowLines answers 0 k) (a .s .output) (a .out .now) q left) (sub-zero (a .frame .rows .0)) whole, refl, refl)
+
 loop-again : tie.Need-loop-again Inv-loop μ-loop
 loop-again c =
     let p = c .before .before in
@@ -57,7 +63,7 @@ show-rows-spec =
     (tie.spec
     Inv-loop
     μ-loop
-    (λ c. (λ q left whole. rw sub-zero at whole, refl, refl))
+    loop-holds
     (λ c. omega (arith, c .before .struct-known .given))
     (λ c κs. search needs)
     (λ c κs. search needs)

@@ -1,4 +1,4 @@
--- A bus file that is read in parts has the records of the whole file.
+-- Reference, 'Bus files': a bus file that is read in parts has the records of the whole file.
 use Prim.Native.Nat.{ℕ, _+_, _≤_}
 use mathlib.Core.List.{List, [], _++_}
 use mathlib.Core.Logic.{_⊎_}

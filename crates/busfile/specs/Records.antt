@@ -1,4 +1,4 @@
--- 01, 'Bus file and its program': records.
+-- Reference, 'Bus files'; 01, 'Bus file and its program': records.
 use Prim.Native.Nat.{ℕ, _+_, _-_, _*_}
 use mathlib.Core.List.{List, _++_}
 use lib.ListN.{length, getD, take, drop}

@@ -95,16 +95,16 @@ turn-more font start k p part part′ at′ takes takes′ ended ended′ done r
         → OpenAfter true (flushes (start .state .output) (stepsLines (suc k) font (file after) start)) takes′
     opened-more after last =
         let was : OpenAfter true (flushes (start .state .output) (stepsLines k font (file after) start)) takes =
-            subst (λ (l : List ℕ). OpenAfter true (flushes (start .state .output) (stepsLines k font l start)) takes) (same after)
-            (done .stays (r .more ++ after) (none-after after last)) in
+        subst (λ (l : List ℕ). OpenAfter true (flushes (start .state .output) (stepsLines k font l start)) takes) (same after)
+        (done .stays (r .more ++ after) (none-after after last)) in
         let lines : stepLines font part′ (placed at′ p) ≡ stepLines font (file after) (steps k font (file after) start) =
-            steps-in-parts font past part′ after (placed at′ p) (enough after last) .1 ∙ ap (stepLines font (file after)) (sym (reached after last)) in
+        steps-in-parts font past part′ after (placed at′ p) (enough after last) .1 ∙ ap (stepLines font (file after)) (sym (reached after last)) in
         let held : p .state .output ≡ printedAll (start .state .output) (stepsLines k font (file after) start) =
-            ap (λ (q : Progress). q .state .output) (sym (reached after last)) ∙ steps-print k font (file after) start in
+        ap (λ (q : Progress). q .state .output) (sym (reached after last)) ∙ steps-print k font (file after) start in
         let behind = printedAll (start .state .output) (stepsLines k font (file after) start) in
         let now =
-            subst (λ (l : List (List ℕ)). OpenAfter takes (flushes behind l) takes′) lines
-            (subst (λ (b : Buffer). OpenAfter takes (flushes b (stepLines font part′ (placed at′ p))) takes′) held opened) in
+        subst (λ (l : List (List ℕ)). OpenAfter takes (flushes behind l) takes′) lines
+        (subst (λ (b : Buffer). OpenAfter takes (flushes b (stepLines font part′ (placed at′ p))) takes′) held opened) in
         rw (lines-last, flushes-both) (open-both _ _ was now)
 
 -- a step stays within its part

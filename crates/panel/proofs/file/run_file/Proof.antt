@@ -19,7 +19,7 @@ returns c =
     let last = progress (r .run-records .result) (r .run-records .last .0) (r .run-records .last .1 .1 .1 .0) in
     let takes = r .run-records .result .session .output .open in
     let cleared : Ran (a .font .now) (startOf (replicate memorySize 0) (a .out .now)) (2 ^ 64 - 1) last takes =
-        subst (λ (m : List ℕ). Ran (a .font .now) (startOf m (a .out .now)) (2 ^ 64 - 1) last takes) (s .pre .2) (r .run-records .ensures) in
+    subst (λ (m : List ℕ). Ran (a .font .now) (startOf m (a .out .now)) (2 ^ 64 - 1) last takes) (s .pre .2) (r .run-records .ensures) in
     record {
       last = last;
       takes = takes;

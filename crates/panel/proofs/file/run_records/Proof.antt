@@ -26,8 +26,12 @@ loop-holds : tie.Need-loop-holds Inv-loop μ-loop
 loop-holds c =
     let a = c .before .before .before .before .before .args in
     let begun = c .start .ensures .0 (a .memory .now) (a .out .now) in (
-      (0, refl, started (a .font .now) (startOf (a .memory .now) (a .out .now)) (progress (c .start .result) (a .memory .now) (a .out .now)) _ [] false begun
-          (c .start .ensures .1)),
+      (
+        0,
+        refl,
+        started (a .font .now) (startOf (a .memory .now) (a .out .now)) (progress (c .start .result) (a .memory .now) (a .out .now)) _ [] false begun
+            (c .start .ensures .1),
+      ),
       record { place = omega (arith, ap (λ (p : Progress). p .at) begun); part = zero-le; roomy = c .before .before .before .before .before .pre },
       refl,
       refl,

@@ -4,6 +4,8 @@ use crate::frames::show;
 use crate::printing::print_answer;
 use crate::printing::print_read;
 use busfile::Kind;
+use model::Written;
+use registers::Answer;
 ghost use Prim.Native.Nat.{ℕ};
 ghost use mathlib.Core.List.{List, [], _∷_, map};
 ghost use lib.ListN.{drop, replicate};
@@ -31,17 +33,22 @@ fn run_data(s: Session, memory: &mut [u8], out: &mut [u8], payload: &[u8], recor
     ensures { λ r. ⌜ CarriesOutCalls «record» 2 (map write (drop 1 (now (payload .entry))))
         (live s (now (memory .entry)) (now (out .entry))) (live r (now (memory .exit)) (now (out .exit))) ⌝ }
 {
-    let mut controller = s.controller;
+    let controller = s.controller;
+    let mut written = Written {
+        controller: controller,
+        answer: Answer::Accepted,
+    };
     let mut o = s.output;
     let mut i: usize = 1;
     while i < payload.len() {
         let b = payload[i];
         i += 1;
-        let written = controller.data_write(memory, b);
-        controller = written.controller;
+        let controller = written.controller;
+        written = controller.data_write(memory, b);
         let answer = written.answer;
         o = print_answer(o, out, answer, record, i as u64);
     }
+    let controller = written.controller;
     Session {
         controller: controller,
         output: o,

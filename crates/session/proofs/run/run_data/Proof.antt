@@ -12,25 +12,25 @@ use Rattle.session.proofs.run.run_data.Statement.{statement}
 use Rattle.session.proofs.run.run_data.Tie as tie
 
 abbrev Inv-loop : tie.InvT-loop
-Inv-loop memory₀ out₀ payload «record» controller₀ o₀ i₀ memory out controller o i =
-    let s₀ : Session = record { controller = controller₀; output = o₀ } in
-    let s : Session = record { controller = controller; output = o } in
+Inv-loop memory₀ out₀ payload «record» written₀ o₀ i₀ memory out written o i =
+    let s₀ : Session = record { controller = written₀ .controller; output = o₀ } in
+    let s : Session = record { controller = written .controller; output = o } in
     ((t : Live) → CarriesOutCalls «record» (i + 1) (map write (drop i payload)) (live s memory out) t
     → CarriesOutCalls «record» 2 (map write (drop 1 payload)) (live s₀ memory₀ out₀) t)
     × (length memory ≡ length memory₀) × (length out ≡ length out₀)
 
 abbrev μ-loop : tie.MeasureT-loop
-μ-loop memory₀ out₀ payload «record» controller₀ o₀ i₀ memory out controller o i = length payload - i
+μ-loop memory₀ out₀ payload «record» written₀ o₀ i₀ memory out written o i = length payload - i
 
 loop-again : tie.Need-loop-again Inv-loop μ-loop
 loop-again c =
     let p = c .before .before in
-    let w = p .before .before .before .before .before in
-    let t = w .before .before .before in
+    let w = p .before .before .before .before in
+    let t = w .before .before .before .before in
     let l = t .before in
     let a = l .before .before .before .before .before .before .args in
     let i = l .loop .i in
-    let s : Session = record { controller = l .loop .controller; output = l .loop .o } in
+    let s : Session = record { controller = l .loop .written .controller; output = l .loop .o } in
     let now = live s (l .loop .memory) (l .loop .out) in
     let printed = p .print-answer .ensures in
     let one = one-call (a .«record») (i + 1) now (write (getD (a .payload .now) i 0)) (w .data-write .ensures) (printed .text) (printed .stays) in
@@ -51,4 +51,4 @@ run-data-spec =
     loop-again
     (λ c. search needs)
     (λ c. search needs)
-    (λ c. c .before .loop .inv .0 _ (no-calls _ _ _ _ (ap (λ (bs : List ℕ). map write bs) (drop-of-length-le _ (c .loop-test .left))))))
+    (λ c. c .before .before .loop .inv .0 _ (no-calls _ _ _ _ (ap (λ (bs : List ℕ). map write bs) (drop-of-length-le _ (c .before .loop-test .left))))))

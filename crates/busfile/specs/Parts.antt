@@ -28,7 +28,3 @@ pub record SameRecord (before part after : List ℕ) (at : ℕ) : Type 0 where
 -- So it is where the file ends with the part, or the part has from that place on as many bytes as the longest record.
 abbrev pub PartsSuffice : Type 0
 PartsSuffice = (before part after : List ℕ) (at : ℕ) → (after ≡ []) ⊎ (at + longestRecord ≤ length part) → SameRecord before part after at
-
--- a list, with more behind it
-abbrev pub FollowedBy : List ℕ → List ℕ → Type 0
-FollowedBy left all = (more : List ℕ) × (all ≡ left ++ more)

@@ -6,7 +6,6 @@ ghost use Prim.Native.Nat.{_+_, _≤_};
 ghost use mathlib.Core.Path.{_≡_};
 ghost use lib.ListN.{length, take};
 ghost use Rattle.registers.specs.Sizes.{fontSize};
-ghost use Rattle.busfile.specs.Parts.{longestRecord};
 ghost use Rattle.panel.specs.Reading.{InPart, Filled};
 
 const FONT_ROOM: usize = FONT_SIZE + 1;

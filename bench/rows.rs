@@ -11,23 +11,27 @@ pub struct Times {
     pub fill: f64,
 }
 
-/// Each round takes one of so many bands of a frame: a sample is then too short to be cut in two by other work.
+/// One dot at a time takes one of so many bands of a frame in a round: a sample is then too short to be cut in two by other work.
 const BANDS: u32 = 8;
+
+/// Ours takes so many whole frames in a round, as a host asks for them: a band would be over before the code and the bytes that it
+/// reads are in the processor's caches.
+const FRAMES: u32 = 4;
 
 /// How often a band is filled in a round: filling is over too soon for the clock.
 const FILLS: usize = 100;
 
-/// One round: a band of a frame each way, one after the other.
+/// One round: the rows each way, one after the other.
 pub fn measure(setup: &Setup, round: u32) -> Times {
     let (width, rows) = setup.size();
     let height = rows / BANDS;
     let first = round % BANDS * height;
     let band = || first..first + height;
-    let dots = width as f64 * f64::from(height);
+    let dots = |rows: u32| width as f64 * f64::from(rows);
     let controller = saved::write(&setup.controller);
     let mut buffer = vec![0; width];
     let ours = nanoseconds(|| {
-        for row in band() {
+        for row in (0..FRAMES).flat_map(|_| 0..rows) {
             calls::row(unknown(&controller), &setup.memory, &setup.font, 0, row, &mut buffer);
             unknown(&buffer);
         }
@@ -45,7 +49,11 @@ pub fn measure(setup: &Setup, round: u32) -> Times {
             unknown(&buffer);
         }
     });
-    Times { ours: ours / dots, one_dot_at_a_time: one_dot_at_a_time / dots, fill: fill / dots / FILLS as f64 }
+    Times {
+        ours: ours / dots(FRAMES * rows),
+        one_dot_at_a_time: one_dot_at_a_time / dots(height),
+        fill: fill / dots(height) / FILLS as f64,
+    }
 }
 
 /// Whether both give the same rows, dot for dot, and accept them.

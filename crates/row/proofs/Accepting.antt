@@ -21,7 +21,7 @@ use Rattle.registers.proofs.Numbers.{number-not-0}
 use Rattle.row.specs.Dots.{width, dots}
 use Rattle.row.specs.Refusals.{greyMode, oddLines, layerOrder, cursorShape, rowRefusal}
 use Rattle.row.specs.Rows.{composedOutcome, rowAnswer, rowOutcome}
-use Rattle.row.specs.Columns.{Composable}
+use Rattle.row.specs.Stages.{Composable}
 
 -- a test that would refuse has failed
 passed : (b : Bool) (k x : ℕ) → (if b then suc k else x) ≡ 0 → (b ≡ false) × (x ≡ 0)
@@ -100,7 +100,7 @@ accepted r code memoryLength fontLength n bufferLength e =
     record {
       below = leb-false ⁅ r .system .lf ⁆ n (p .below);
       whole = eqb-true bufferLength (width r) (not-false (bufferLength =? width r) (p .whole));
-      composable = record { code = code; narrow = ltb-false 8 ⁅ r .system .fx ⁆ (p .narrow); graphics = grey-graphics r (p .grey); order = p .order };
+      composable = record { code = code; narrow = ltb-false 8 ⁅ r .system .fx ⁆ (p .narrow); graphics = grey-graphics r (p .grey) };
     }
 
 -- an accepted row has at most 640 dots

@@ -6,4 +6,4 @@ pub mod Mixing
 pub mod Dots
 pub mod Refusals
 pub mod Rows
-pub mod Columns
+pub mod Stages

@@ -1,7 +1,9 @@
 // Bytes of display memory and of the font.
-use crate::ColumnSetup;
 use crate::Glyph;
+ghost use Prim.Native.Nat.{_<_};
 ghost use mathlib.Core.Path.{_≡_};
+ghost use lib.ListN.{length};
+ghost use Rattle.registers.specs.Sizes.{fontSize};
 ghost use Rattle.row.specs.Glyphs.{fetch, glyphOf, fontByte, cgRamByte, glyphByte};
 
 // A fetch past the end of memory gives 0.
@@ -33,23 +35,22 @@ fn glyph_of(m0: bool, code: u8) -> Glyph
     Glyph::CgRam
 }
 
-fn font_byte(font: &[u8], index: u8, row: u8) -> u8
+// The font has 160 glyphs.
+fn font_byte(font: &[u8], index: u8, row: u16) -> u8
+    requires { ⌜ (length (now font) ≡ fontSize) × (index < 160) ⌝ }
     ensures { λ r. ⌜ r ≡ fontByte (now (font .entry)) index row ⌝ }
 {
     if row < 8 {
-        let at = index as usize * 8 + row as usize;
-        if at < font.len() {
-            return font[at];
-        }
+        return font[index as usize * 8 + row as usize];
     }
     0
 }
 
-fn cg_ram_byte(k: ColumnSetup, memory: &[u8], code: u8, row: u8) -> u8
-    ensures { λ r. ⌜ r ≡ cgRamByte (k .m2) (k .cgram) (now (memory .entry)) code row ⌝ }
+fn cg_ram_byte(m2: bool, cgram: u16, memory: &[u8], code: u8, row: u16) -> u8
+    ensures { λ r. ⌜ r ≡ cgRamByte m2 cgram (now (memory .entry)) code row ⌝ }
 {
-    let start = std::num::wrapping_add_u16(k.cgram, row as u16);
-    if k.m2 {
+    let start = std::num::wrapping_add_u16(cgram, row);
+    if m2 {
         let address = std::num::wrapping_add_u16(start, code as u16 * 16);
         return fetch(memory, address);
     }
@@ -62,13 +63,22 @@ fn cg_ram_byte(k: ColumnSetup, memory: &[u8], code: u8, row: u8) -> u8
 }
 
 // A row of the glyph of a code. Each source is called from one place, so that it is inlined.
-pub fn glyph_byte(k: ColumnSetup, memory: &[u8], font: &[u8], code: u8, row: u8) -> u8
-    ensures { λ r. ⌜ r ≡ glyphByte (k .m0) (k .m2) (k .cgram) (now (memory .entry)) (now (font .entry)) code row ⌝ }
+pub fn glyph_byte(
+    m0: bool,
+    m2: bool,
+    cgram: u16,
+    memory: &[u8],
+    font: &[u8],
+    code: u8,
+    row: u16,
+) -> u8
+    requires { ⌜ length (now font) ≡ fontSize ⌝ }
+    ensures { λ r. ⌜ r ≡ glyphByte m0 m2 cgram (now (memory .entry)) (now (font .entry)) code row ⌝ }
 {
-    let glyph = glyph_of(k.m0, code);
+    let glyph = glyph_of(m0, code);
     match glyph {
         Glyph::Empty => 0,
         Glyph::Font(index) => font_byte(font, index, row),
-        Glyph::CgRam => cg_ram_byte(k, memory, code, row),
+        Glyph::CgRam => cg_ram_byte(m2, cgram, memory, code, row),
     }
 }

@@ -1,14 +1,13 @@
 // Rows of dots, from the registers, display memory, a font and a frame number.
-mod columns;
 mod cursor;
+mod expanding;
+mod fetching;
 mod flashing;
 mod glyphs;
 mod layers;
 mod mixing;
 mod refusals;
 mod rows;
-mod sources;
-mod spreading;
 
 use registers::Count;
 pub use rows::compose;
@@ -25,29 +24,6 @@ pub enum Glyph {
     Empty,
     Font(u8),
     CgRam,
-}
-
-// What a layer's row fetches: nothing, the bytes from an address on, or a glyph row of the codes from an address on.
-pub(crate) enum Source {
-    Blank,
-    Graphics(u16),
-    Text(u16, u8),
-}
-
-// The cursor on a row: the address of the row's first code, and the bits that it inverts in its cell.
-pub(crate) struct CursorRow {
-    pub start: u16,
-    pub mask: u8,
-}
-
-// What every column of a row reads of the registers.
-pub(crate) struct ColumnSetup {
-    pub m0: bool,
-    pub m2: bool,
-    pub cgram: u16,
-    pub mx: u8,
-    pub grey: u8,
-    pub cursor: u16,
 }
 
 // The dots of a row, and the rows of a frame.

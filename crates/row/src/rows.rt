@@ -1,75 +1,117 @@
 // A row of dots.
-use crate::ColumnSetup;
 use crate::FrameSize;
-use crate::columns::columns;
-use crate::cursor::cursor_row;
+use crate::LayerRow;
+use crate::cursor::invert;
+use crate::expanding::expand;
+use crate::fetching::clear;
+use crate::fetching::layer_bytes;
 use crate::layers::layer1;
 use crate::layers::layer2;
 use crate::layers::layer3;
+use crate::layers::three_layers;
+use crate::mixing::mix_bytes;
+use crate::mixing::third_mix;
+use crate::refusals::columns;
 use crate::refusals::columns_width;
 use crate::refusals::dots_per_column;
 use crate::refusals::row_answer;
-use crate::sources::layer_source;
 use registers::Answer;
 use registers::FONT_SIZE;
 use registers::MEMORY_SIZE;
 use registers::Refusal;
 use registers::Registers;
+ghost use Prim.Native.Nat.{ℕ, _<_, _≤_};
 ghost use mathlib.Core.Path.{_≡_};
-ghost use lib.ListN.{length};
-ghost use Rattle.row.specs.Dots.{width, table, shownDot, dots};
+ghost use lib.ListN.{length, getD};
+ghost use Rattle.registers.specs.Counts.{⁅_⁆};
+ghost use Rattle.row.specs.Dots.{bitsPerDot, perColumn, width, dotOf, layerByte, columnDot, shownDot, table, dots};
 ghost use Rattle.row.specs.Rows.{frameSize, rowOutcome, composedOutcome};
-ghost use Rattle.row.specs.Columns.{Composable};
+ghost use Rattle.row.specs.Stages.{mixByte, Sized, Composable};
 
-// A row of zeros.
-fn clear(out: &mut [u8])
-    ensures { λ _. ⌜ now (out .exit) ≡ table (length (now (out .entry))) (λ x. 0) ⌝ }
+// A layer's bytes mixed into the line.
+fn mix_layer(
+    r: Registers,
+    memory: &[u8],
+    font: &[u8],
+    frame: u32,
+    layer: LayerRow,
+    mx: u8,
+    line: &mut [u8],
+    scratch: &mut [u8],
+)
+    requires { ⌜ Sized (now memory) (now font) × (length (now line) ≤ 256) × (length (now scratch) ≡ length (now line)) ⌝ }
+    ensures { λ _. ⌜ now (line .exit) ≡ table (length (now (line .entry))) (λ c. mixByte mx (r .grey)
+        (getD (now (line .entry)) c 0) (layerByte r (now (memory .entry)) (now (font .entry)) frame layer c)) ⌝ }
 {
-    let mut i: usize = 0;
-    while i < out.len() {
-        out[i] = 0;
-        i += 1;
+    layer_bytes(r, memory, font, frame, layer, scratch);
+    mix_bytes(mx, r.grey, line, scratch);
+}
+
+// The bytes of row n, all layers mixed.
+fn mix_layers(
+    r: Registers,
+    memory: &[u8],
+    font: &[u8],
+    frame: u32,
+    n: u16,
+    line: &mut [u8],
+    scratch: &mut [u8],
+)
+    requires { ⌜ Sized (now memory) (now font) × Composable r × (length (now line) ≡ ⁅ r .system .cr ⁆)
+        × (length (now line) ≤ 256) × (length (now scratch) ≡ length (now line)) ⌝ }
+    ensures { λ _. ⌜ ((c j : ℕ) → c < ⁅ r .system .cr ⁆ → j < perColumn r → dotOf (bitsPerDot (r .grey)) (getD (now (line .exit)) c 0) j
+        ≡ columnDot r (now (memory .entry)) (now (font .entry)) frame n c j) ⌝ }
+{
+    let mx = r.overlay.mx;
+    let layer = layer1(r, n);
+    layer_bytes(r, memory, font, frame, layer, line);
+    invert(r, frame, layer, line);
+    mix_layer(r, memory, font, frame, layer2(r, n), mx, line, scratch);
+    if three_layers(r.system.ws, r.overlay) {
+        mix_layer(
+            r,
+            memory,
+            font,
+            frame,
+            layer3(r, n),
+            third_mix(mx),
+            line,
+            scratch,
+        );
     }
 }
 
-// The dots of row n with the display on.
-fn paint(r: Registers, memory: &[u8], font: &[u8], frame: u32, n: u16, out: &mut [u8])
-    requires { ⌜ (length (now out) ≡ width r) × Composable r ⌝ }
+// The dots of row n with the display on, by way of a line of its bytes. The row's own buffer holds the bytes of layers 2 and 3 until its
+// dots go there.
+fn paint(
+    r: Registers,
+    memory: &[u8],
+    font: &[u8],
+    frame: u32,
+    n: u16,
+    line: &mut [u8],
+    out: &mut [u8],
+)
+    requires { ⌜ Sized (now memory) (now font) × Composable r × (length (now line) ≡ ⁅ r .system .cr ⁆)
+        × (length (now line) ≤ 256) × (length (now out) ≡ width r) ⌝ }
     ensures { λ _. ⌜ now (out .exit) ≡ table (width r) (shownDot r (now (memory .entry)) (now (font .entry)) frame n) ⌝ }
 {
-    let system = r.system;
-    let setup = ColumnSetup {
-        m0: system.m0,
-        m2: system.m2,
-        cgram: r.cgram,
-        mx: r.overlay.mx,
-        grey: r.grey,
-        cursor: r.cursor.address,
-    };
-    let count = system.cr.count();
-    let per = dots_per_column(r.grey, system.fx) as usize;
-    let layer = layer1(r, n);
-    let one = layer_source(r, layer, frame);
-    let cursor = cursor_row(r, layer, frame);
-    let two = layer_source(r, layer2(r, n), frame);
-    let three = layer_source(r, layer3(r, n), frame);
-    columns(
-        setup,
-        one,
-        two,
-        three,
-        cursor,
-        memory,
-        font,
-        count,
-        per,
-        out,
-    );
+    let per = dots_per_column(r.grey, r.system.fx) as usize;
+    let count = line.len();
+    mix_layers(r, memory, font, frame, n, line, &mut out[..count]);
+    expand(r.grey, per, line, out);
+}
+
+// Room for the bytes of a row.
+fn line_buffer() -> [u8; 256]
+    ensures { λ r. ⌜ 256 ≡ length r ⌝ }
+{
+    [0; 256]
 }
 
 // The dots of row n.
 fn draw(r: Registers, memory: &[u8], font: &[u8], frame: u32, n: u16, out: &mut [u8])
-    requires { ⌜ (length (now out) ≡ width r) × Composable r ⌝ }
+    requires { ⌜ (length (now out) ≡ width r) × Sized (now memory) (now font) × Composable r ⌝ }
     ensures { λ _. ⌜ now (out .exit) ≡ dots r (now (memory .entry)) (now (font .entry)) frame n ⌝ }
 {
     if r.display.on {
@@ -77,7 +119,9 @@ fn draw(r: Registers, memory: &[u8], font: &[u8], frame: u32, n: u16, out: &mut 
             clear(out);
             return;
         }
-        paint(r, memory, font, frame, n, out);
+        let mut line = line_buffer();
+        let count = columns(r.system.cr);
+        paint(r, memory, font, frame, n, &mut line[..count], out);
         return;
     }
     clear(out);
@@ -95,8 +139,8 @@ pub fn frame_size(registers: Registers) -> FrameSize
     }
 }
 
-// Row n of a frame into a buffer of a byte a dot, which stands where the row is refused. The sizes of memory and font are tested here, so
-// that the compiler knows them in the columns' loop.
+// Row n of a frame into a buffer of a byte a dot, which stands where the row is refused. The sizes of memory
+// and font are tested here once for all stages.
 pub fn compose(
     registers: Registers,
     memory: &[u8],

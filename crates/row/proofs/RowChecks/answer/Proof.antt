@@ -1,4 +1,4 @@
-use Rattle.row.specs.Columns.{firstRefusal}
+use Rattle.row.specs.Stages.{firstRefusal}
 use Rattle.row.proofs.RowChecks.answer.Statement.{statement}
 use Rattle.row.proofs.RowChecks.answer.Tie as tie
 

@@ -1,5 +1,5 @@
 use borrow.Author.Tests.{le-ltb, lt-ltb}
-use Rattle.row.specs.Columns.{firstBits}
+use Rattle.row.specs.Stages.{firstBits}
 use borrow.Author.Needs.{needs}
 use Rattle.row.proofs.cursor.first_bits.Statement.{statement}
 use Rattle.row.proofs.cursor.first_bits.Tie as tie

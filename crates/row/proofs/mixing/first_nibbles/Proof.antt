@@ -1,4 +1,4 @@
-use Rattle.row.specs.Columns.{firstNibbles}
+use Rattle.row.specs.Stages.{firstNibbles}
 use borrow.Author.Needs.{needs}
 use Rattle.row.proofs.mixing.first_nibbles.Statement.{statement}
 use Rattle.row.proofs.mixing.first_nibbles.Tie as tie

@@ -1,4 +1,4 @@
-use Rattle.row.specs.Columns.{firstPairs}
+use Rattle.row.specs.Stages.{firstPairs}
 use borrow.Author.Needs.{needs}
 use Rattle.row.proofs.mixing.first_pairs.Statement.{statement}
 use Rattle.row.proofs.mixing.first_pairs.Tie as tie

@@ -1,5 +1,5 @@
 use borrow.Author.Tests.{eq-eqb, ne-eqb}
-use Rattle.row.specs.Columns.{firstByte, mixByte}
+use Rattle.row.specs.Stages.{firstByte, mixByte}
 use borrow.Author.Needs.{needs}
 use Rattle.row.proofs.mixing.mix_byte.Statement.{statement}
 use Rattle.row.proofs.mixing.mix_byte.Tie as tie

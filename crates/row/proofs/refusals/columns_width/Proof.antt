@@ -1,3 +1,4 @@
+use native.Mathlib.Omega.{arith}
 use Rattle.row.proofs.Addresses.{product}
 use native.Mathlib.Nat.{lt-trans}
 use lib.Dec.{lit<}
@@ -10,6 +11,5 @@ columns-width-spec =
     tie.close
     (tie.spec
     (λ c κs. search needs)
-    (λ c. search needs)
-    (λ c. record { fits = lt-trans (product (search needs) (search needs)) (lit< tt) })
-    (λ c. cc (c .before .count .ensures)))
+    (λ c. record { fits = lt-trans (product (let h = c .columns .ensures .1 in omega arith) (search needs)) (lit< tt) })
+    (λ c. cc (c .columns .ensures .0)))

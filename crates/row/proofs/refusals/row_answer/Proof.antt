@@ -1,6 +1,6 @@
 use mathlib.Core.Path.{sym, _∙_, _≡_}
 use Rattle.row.specs.Refusals.{rowRefusal}
-use Rattle.row.specs.Columns.{firstRefusal}
+use Rattle.row.specs.Stages.{firstRefusal}
 use Rattle.row.specs.Dots.{width}
 use Rattle.registers.specs.Refusals.{reply}
 use Rattle.registers.specs.Sizes.{memorySize, fontSize}

@@ -21,7 +21,7 @@ compose-spec =
     (λ c κs. let s = c .before .before .before .before .before .before in rw (c .in-layout .ensures) (grey-code (s .args .registers)))
     (λ c. search needs)
     (λ c. let q = c .before .before in record { fits = q .row-answer .ensures .1 (zero (q .row-answer .result) (c .enum-told .given .1)) })
-    (λ c κs. let q = c .before .before .before in let l = q .before in let s = l .before .before .before .before .before .before in let d = accepted _ (rw (l .in-layout .ensures) (grey-code (s .args .registers))) _ _ _ _ (sym (q .row-answer .ensures .0) ∙ zero (q .row-answer .result) (c .before .enum-told .given .1)) in (d .whole, d .composable))
+    (λ c κs. let q = c .before .before .before in let l = q .before in let s = l .before .before .before .before .before .before in let d = accepted _ (rw (l .in-layout .ensures) (grey-code (s .args .registers))) _ _ _ _ (sym (q .row-answer .ensures .0) ∙ zero (q .row-answer .result) (c .before .enum-told .given .1)) in (d .whole, (l .before .before .if1 .left, l .before .if2 .left), d .composable))
     (λ c. search needs)
     (λ c. search needs)
     (λ c. let d = c .before .before in let e = d .before .before in let q = e .before .before in let l = q .before in let a = l .before .before .before .before .before .before .args in outcome-accepted (a .registers) (a .memory .now) (a .font .now) (a .frame) (a .n) (a .out .now) (l .before .before .if1 .left) (l .before .if2 .left) (rw (← l .in-layout .ensures) (sym (q .row-answer .ensures .0) ∙ zero (q .row-answer .result) (e .enum-told .given .1))) (d .draw .ensures ∙ rw (l .in-layout .ensures)))

@@ -1,34 +1,50 @@
-use mathlib.Core.Path.{_∙_}
-use Rattle.row.specs.Dots.{width}
-use Rattle.row.proofs.Dots.{columns-fit, row-dots}
+use native.Mathlib.Omega.{arith}
 use borrow.Author.Needs.{needs}
+use mathlib.Core.Path.{sym, ap, _∙_}
+use Prim.Native.Nat.{ℕ, _*_, _≤_}
+use lib.ListN.{length}
+use lib.Seq.{length-take-le, length-front}
+use Rattle.row.specs.Dots.{perColumn, width}
+use Rattle.row.proofs.Dots.{columns-fit, columns-in-row, expanded}
 use Rattle.row.proofs.rows.paint.Statement.{statement}
 use Rattle.row.proofs.rows.paint.Tie as tie
 
-pub paint-spec : {M : Type 1} → statement M
+-- the row has room for the line
+room : (c : tie.After-dots-per-column) → let s = c .before .before .before .before .before in length (s .args .line .now) ≤ length (s .args .out .now)
+room c = let s = c .before .before .before .before .before in omega (arith, columns-in-row (s .args .r) (s .pre .1), s .pre .2, s .pre .4)
+
+expand-requires : tie.Need-expand-requires
 unfolding width
+expand-requires c κs =
+    let m = c .before .before .before .before .before .before in
+    let d = m .before .before .before in
+    let s = d .before .before .before .before .before in
+    let q = m .mix-layers .kept .1 .1 .1 .1 .1 .0 ∙ s .pre .2 in
+    rw (d .dots-per-column .ensures) (
+      columns-fit (s .args .r) (s .pre .1) .1,
+      length-front (s .args .out .now) (m .mix-layers .last .1 .1 .1 .1 .1 .1 .0) (length (s .args .line .now)) (m .mix-layers .kept .1 .1 .1 .1 .1 .1 .0) ∙ s .pre .4 ∙ ap (λ (k : ℕ). k * perColumn (s .args .r)) (sym q),
+    )
+
+returns : tie.Need-returns
+returns c =
+    let e = c .before .before in
+    let m = e .before .before .before .before .before .before .before in
+    let d = m .before .before .before in
+    let s = d .before .before .before .before .before in
+    let a = s .args in
+    expanded (a .r) (a .memory .now) (a .font .now) (a .frame) (a .n) (m .mix-layers .last .1 .1 .1 .1 .1 .0) (s .pre .1) (m .mix-layers .kept .1 .1 .1 .1 .1 .0 ∙ s .pre .2) (m .mix-layers .ensures)
+    (rw (d .dots-per-column .ensures) at (e .expand .ensures))
+
+pub paint-spec : {M : Type 1} → statement M
 paint-spec =
     tie.close
     (tie.spec
     (λ c κs. search needs)
-    (λ c κs. c .before .before .before .before .before .pre .1 .code)
     (λ c. search needs)
-    (λ c κs. search needs)
-    (λ c κs. search needs)
-    (λ c κs. search needs)
-    (λ c κs. search needs)
-    (λ c κs. search needs)
-    (λ c κs. search needs)
-    (λ c κs. search needs)
-    (λ c κs. let d = c .before .before .before .before .before .before .before .before in let s = d .before .before .before .before .before .before in rw (d .before .count .ensures, d .dots-per-column .ensures) (let k = columns-fit (s .args .r) (s .pre .1) in (s .pre .0, k .0, k .1)))
+    (λ c. room (c .before))
+    (λ c. let s = c .before .before .before .before .before .before .before in sym (length-take-le _ (s .args .out .now) (room (c .before .before))))
+    (λ c κs. let s = c .before .before .before .before .before .before .before in (s .pre .0, s .pre .1, s .pre .2, s .pre .3, length-take-le _ (s .args .out .now) (room (c .before .before))))
+    expand-requires
     (λ c. search needs)
-    (λ c.
-    let k = c .before .before in
-    let s3 = k .before .before in
-    let s2 = s3 .before .before in
-    let r = s2 .before .before in
-    let l1 = r .before .before in
-    let d = l1 .before in
-    k .columns .ensures
-    ∙ rw (d .before .count .ensures, d .dots-per-column .ensures, r .before .layer-source .ensures, s2 .layer-source2 .ensures, s3 .layer-source3 .ensures, r .cursor-row .ensures, l1 .layer1 .ensures, s2 .before .layer2 .ensures, s3 .before .layer3 .ensures)
-    (row-dots _ _ _ _ _ (d .before .before .before .before .before .before .pre .1))))
+    (λ c. search needs)
+    returns)

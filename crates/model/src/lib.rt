@@ -30,3 +30,15 @@ pub struct Read {
     pub controller: Controller,
     pub answer: ReadAnswer,
 }
+
+// What a run of data writes leaves, and how many bytes it took.
+pub struct WriteRun {
+    pub controller: Controller,
+    pub length: usize,
+}
+
+// The address behind bytes that were stored, and how many they are.
+pub struct Stored {
+    pub address: u16,
+    pub length: usize,
+}

@@ -3,7 +3,7 @@ use Prim.Native.Nat.{ℕ, _+_, _%_}
 use mathlib.Core.List.{List, [], _∷_}
 use lib.ListN.{length, set}
 use Rattle.choice.specs.Choice.{if_then_else_, _<?_}
-use Rattle.model.specs.declared.Stored.{Stored}
+use Rattle.model.specs.declared.memory.Stored.{Stored}
 
 -- the address behind the bytes stored, the memory, and how many they are
 pub record StoredOutcome : Type 0 where

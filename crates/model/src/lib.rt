@@ -36,9 +36,3 @@ pub struct WriteRun {
     pub controller: Controller,
     pub length: usize,
 }
-
-// The address behind bytes that were stored, and how many they are.
-pub struct Stored {
-    pub address: u16,
-    pub length: usize,
-}

@@ -1,7 +1,6 @@
 // Accesses to display memory at the cursor, which then moves.
 use crate::Controller;
 use crate::Read;
-use crate::Stored;
 use crate::WriteRun;
 use crate::Written;
 use registers::Answer;
@@ -20,6 +19,12 @@ ghost use Rattle.model.specs.Machine.{machine, writtenOutcome, readOutco
 ghost use Rattle.model.specs.Bus.{served, writeMemory, readMemory};
 ghost use Rattle.model.specs.WriteRun.{runOutcome, writeRunOutcome};
 ghost use Rattle.model.specs.Strides.{storedOutcome, storedFrom};
+
+// The address behind bytes that were stored, and how many they are.
+struct Stored {
+    address: u16,
+    length: usize,
+}
 
 fn smaller(a: usize, b: usize) -> usize
     ensures { λ r. ⌜ r ≡ min a b ⌝ }

@@ -1,21 +1,21 @@
 -- Runs of data writes: all accepted, and as long as can be; and a run as bytes stored a stride apart.
-use Prim.Native.Nat.{ℕ, zero, suc, _+_, _%_, _<_, _≤_, zero-le, suc-le-suc}
-use mathlib.Core.Bool.{Bool, true, false, not, _&&_}
+use Prim.Native.Nat.{ℕ, suc, _+_, _%_, _<_, _≤_, zero-le, suc-le-suc}
+use mathlib.Core.Bool.{Bool, true, false, _&&_}
 use mathlib.Core.List.{List, [], _∷_, map}
-use mathlib.Core.Path.{_≡_, refl, sym, ap, subst, _∙_}
+use mathlib.Core.Path.{_≡_, refl, sym, subst, _∙_}
 use native.Mathlib.Nat.{add-zero, zero-add, le-of-suc-le-suc}
 use native.Mathlib.Omega.{arith}
 use lib.Dec.{T}
 use lib.ListN.{length, set, take, length-set}
 use borrow.Author.Tests.{eq-eqb}
-use Rattle.choice.specs.Choice.{if_then_else_, _<?_}
+use Rattle.choice.specs.Choice.{_<?_}
 use Rattle.choice.proofs.Cases.{choose}
 use Rattle.registers.specs.declared.Command.the-variants.{Mwrite}
 use Rattle.registers.specs.Commands.{_is_}
 use Rattle.registers.specs.Refusals.{accepted}
 use Rattle.registers.specs.Sizes.{memorySize}
 use Rattle.model.specs.declared.Controller.{Controller}
-use Rattle.model.specs.Machine.{Machine, Outcome, machine, accept, controller}
+use Rattle.model.specs.Machine.{Machine, machine, accept, controller}
 use Rattle.model.specs.Bus.{sized, served, accessed, inside, dataWrite, writeMemory}
 use Rattle.model.specs.Calls.{write, after, outcomes}
 use Rattle.model.specs.Refresh.{All}

@@ -1,6 +1,6 @@
--- A run: of the bytes of a list, from the first on, so many data writes as go into memory and are all accepted. 01 knows only single
--- data writes, and a run is so many of them.
-use Prim.Native.Nat.{ℕ, zero, suc}
+-- A run: as many data writes of a list of bytes, from the first on, as go into memory and are accepted. 01 knows only single data
+-- writes, and a run is so many of them.
+use Prim.Native.Nat.{ℕ, suc}
 use mathlib.Core.Bool.{Bool, _&&_}
 use mathlib.Core.List.{List, [], _∷_, map}
 use lib.ListN.{take}
@@ -18,8 +18,8 @@ stores m = sized m && served (m .controller) is Mwrite && inside m
 
 -- how many data writes do, one after the other, up to the first that does not
 abbrev pub runLength : Machine → List ℕ → ℕ
-runLength m [] = zero
-runLength m (b ∷ bs) = if stores m then suc (runLength (dataWrite m b .machine) bs) else zero
+runLength m [] = 0
+runLength m (b ∷ bs) = if stores m then suc (runLength (dataWrite m b .machine) bs) else 0
 
 -- the machine that a run leaves, and how many bytes it took
 pub record RunOutcome : Type 0 where

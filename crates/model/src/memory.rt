@@ -26,6 +26,7 @@ struct Stored {
     length: usize,
 }
 
+// The smaller of two counts.
 fn smaller(a: usize, b: usize) -> usize
     ensures { λ r. ⌜ r ≡ min a b ⌝ }
 {
@@ -65,7 +66,8 @@ fn store_adjacent(memory: &mut [u8], bytes: &[u8], address: u16) -> Stored
     }
 }
 
-// Bytes stored a stride apart, up to the first address past memory's end. The loop carries no controller.
+// Bytes stored a stride apart, up to the first address past memory's end. The loop carries the address alone: a controller by value costs
+// more than a store.
 fn store_strided(memory: &mut [u8], bytes: &[u8], address: u16, stride: u16) -> Stored
     ensures { λ r. ⌜ storedOutcome r (now (memory .exit)) ≡ storedFrom stride 0 address (now (memory .entry)) (now (bytes .entry)) ⌝ }
 {
@@ -89,6 +91,7 @@ fn store_strided(memory: &mut [u8], bytes: &[u8], address: u16, stride: u16) -> 
     }
 }
 
+// Bytes stored from an address on.
 fn store_from(memory: &mut [u8], bytes: &[u8], address: u16, stride: u16) -> Stored
     requires { ⌜ length (now memory) ≡ memorySize ⌝ }
     ensures { λ r. ⌜ storedOutcome r (now (memory .exit)) ≡ storedFrom stride 0 address (now (memory .entry)) (now (bytes .entry)) ⌝ }

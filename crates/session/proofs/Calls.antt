@@ -59,7 +59,7 @@ writes-first r k s (b ∷ bs) cs all rest =
     let m = s .state .machine in
     call-first r k s (write b) (map write (bs ++ cs))
     (one-call r k s (write b) refl (rw (all .0)) (rw (all .0) (inl refl)))
-    (writes-first r (k + 1) (moved s (call m (write b) .machine)) bs cs (all .1) (rw (further) at rest))
+    (writes-first r (k + 1) (moved s (call m (write b) .machine)) bs cs (all .1) (rw further at rest))
   where
     further : k + suc (length bs) ≡ k + 1 + length bs
     further = omega arith

@@ -1,4 +1,4 @@
-//! Disturbances on the bus: bad, short and long parameter lists, unknown codes, sleep, reads and walks of the cursor.
+//! Disturbances on the bus: bad, short and long parameter lists, unknown codes, sleep, reads, walks of the cursor and runs.
 
 use support::random::Random;
 use support::records::Records;
@@ -60,7 +60,7 @@ fn unknown(random: &mut Random) -> u8 {
 
 /// One disturbance, and perhaps a frame after it.
 pub fn disturb(records: &mut Records, random: &mut Random) {
-    match random.below(11) {
+    match random.below(12) {
         0 => {
             for _ in 0..random.between(1, 5) {
                 let data = random.below(3);
@@ -78,6 +78,7 @@ pub fn disturb(records: &mut Records, random: &mut Random) {
         7 => records.command(DISP_OFF, &[random.byte()]),
         8 => records.command(DISP_ON, &[random.byte()]),
         9 => records.command(OVLAY, &[random.below(32) as u8]),
+        10 => run(records, random),
         _ => {
             let code = random.pick(&[SYSTEM_SET, SCROLL, SCROLL, CSRFORM, CGRAM_ADR, CSRW]);
             let mut list = small_list(code, random);
@@ -183,4 +184,28 @@ fn walk(records: &mut Records, random: &mut Random) {
         records.command(MREAD, &[]);
         records.read(steps as u16);
     }
+}
+
+/// A record of data bytes that reaches, leaves or wraps round memory in one run, and reads where it started and went.
+fn run(records: &mut Records, random: &mut Random) {
+    let ap: u16 = random.pick(&[0, 1, 0x10, 0x4000, 0x7FFF, 0x8000, 0x8001, 0xFFFF]);
+    let mut list = small_list(SYSTEM_SET, random);
+    list[6..].copy_from_slice(&ap.to_le_bytes());
+    records.command(SYSTEM_SET, &list);
+    // Moving by 1, memory is left for 32,768 bytes.
+    let ((direction, start), count) = if random.chance(8) {
+        (random.pick(&[(CSRDIR_RIGHT, 0x7FFD), (CSRDIR_LEFT, 0x0002)]), 32_774)
+    } else {
+        let direction = random.pick(&[CSRDIR_RIGHT, CSRDIR_LEFT, CSRDIR_UP, CSRDIR_DOWN]);
+        let start = random.pick(&[0x0000, 0x0001, 0x0020, 0x7FF0, 0x7FFE, 0x7FFF, 0x8000, 0xFFFE, 0xFFFF]);
+        ((direction, start), random.below(40))
+    };
+    records.command(direction, &[]);
+    records.word_command(CSRW, start);
+    records.command(MWRITE, &random.bytes(count));
+    records.command(CSRR, &[]);
+    records.read(2);
+    records.word_command(CSRW, start);
+    records.command(MREAD, &[]);
+    records.read(40);
 }

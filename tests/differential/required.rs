@@ -4,7 +4,7 @@ use reference::commands::*;
 use support::counts::Event;
 
 /// Events that need no number.
-const PLAIN: [&str; 72] = [
+const PLAIN: [&str; 74] = [
     // Layers and blocks.
     "two layers, SL1 > SL2, before the split",
     "two layers, SL1 > SL2, after the split",
@@ -65,6 +65,8 @@ const PLAIN: [&str; 72] = [
     "memory write at 8000h or above gets 7",
     "memory read at 8000h or above gets 7",
     "memory read of a byte that isn't 0",
+    "MWRITE without data",
+    "run of no byte, MWRITE pending",
     "asleep: an unknown code gets 2",
     "asleep: data gets 3",
     "asleep: a read gets 6",
@@ -86,7 +88,7 @@ const PLAIN: [&str; 72] = [
 ];
 
 /// Events that are needed with each of some numbers.
-const WITH_NUMBER: [(&str, &[u8]); 37] = [
+const WITH_NUMBER: [(&str, &[u8]); 43] = [
     ("refusal # printed", &[2, 3, 4, 5, 6, 7, 8, 9, 10, 11, 12, 13, 14, 15]),
     ("command $ accepted", &CODES),
     ("two layers, SL1 < SL2, before the split, OV #", &[0, 1]),
@@ -114,6 +116,12 @@ const WITH_NUMBER: [(&str, &[u8]); 37] = [
     ("frame accepted asleep with D #", &[0, 1]),
     ("cursor moved by direction $", &[CSRDIR_RIGHT, CSRDIR_LEFT, CSRDIR_UP, CSRDIR_DOWN]),
     ("cursor wrapped by direction $", &[CSRDIR_RIGHT, CSRDIR_LEFT, CSRDIR_UP, CSRDIR_DOWN]),
+    ("run by direction $ of a whole record", &[CSRDIR_RIGHT, CSRDIR_LEFT, CSRDIR_UP, CSRDIR_DOWN]),
+    ("run by direction $ leaves memory", &[CSRDIR_RIGHT, CSRDIR_LEFT, CSRDIR_UP, CSRDIR_DOWN]),
+    ("direction $ leaves memory and comes back in one record", &[CSRDIR_RIGHT, CSRDIR_LEFT, CSRDIR_UP, CSRDIR_DOWN]),
+    ("run by direction $ with AP 0", &[CSRDIR_UP, CSRDIR_DOWN]),
+    ("run by direction $ one address on", &[CSRDIR_UP, CSRDIR_DOWN]),
+    ("run by direction $ wraps inside memory", &[CSRDIR_UP, CSRDIR_DOWN]),
     ("CSRR read #", &[1, 2]),
     // The third read of CSRR, and a read of what takes data writes only.
     ("read with $ pending gets 6", &[CSRR, CSRW]),

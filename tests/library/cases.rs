@@ -108,16 +108,16 @@ fn row(controller: &[u8], random: &mut Random) -> Call {
 }
 
 fn call(controller: &[u8], random: &mut Random) -> Call {
-    match random.below(20) {
+    match random.below(21) {
         0 => Call::Reset,
         1 | 2 => Call::CommandWrite(if random.chance(80) { random.pick(&CODES) } else { random.byte() }),
         3..=6 => Call::DataRead,
-        7 => {
+        7 | 8 => {
             let count = random.below(60);
             Call::DataWrites(random.bytes(count))
         }
-        8 => Call::CommandWrite(MWRITE),
-        9 | 10 => row(controller, random),
+        9 => Call::CommandWrite(MWRITE),
+        10 | 11 => row(controller, random),
         _ => Call::DataWrite(if random.chance(60) { random.pick(&[0x00, 0x01, 0x02, 0x07, 0x10, 0x1F, 0x3D]) } else { random.byte() }),
     }
 }

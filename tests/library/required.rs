@@ -5,7 +5,7 @@ use exported::saved;
 use reference::commands::*;
 use support::counts::Event;
 
-const PLAIN: [&str; 22] = [
+const PLAIN: [&str; 26] = [
     "reset of bytes that are no controller",
     "another format",
     "a controller of another length",
@@ -16,6 +16,10 @@ const PLAIN: [&str; 22] = [
     "MWRITE at a place that isn't 0",
     "MREAD of a byte that isn't 0 at a place that isn't 0",
     "asleep, P1 of SYSTEM SET gets 4",
+    "no data writes in one call",
+    "asleep, data writes with MWRITE pending get 3",
+    "data writes that start outside memory",
+    "data writes all taken as parameters",
     "15 since CRY is read as 0",
     "16 at row [L/F]",
     "16 at the last number of 32 bits",
@@ -42,9 +46,14 @@ pub fn required() -> Vec<Event> {
     };
     each("answer #", &mut (0..=17));
     each("CSRR read #", &mut (1..=2));
-    for call in ["1 on a data write, wrong memory #", "1 on a data read, wrong memory #", "1 on a row, wrong memory #"] {
+    for call in [
+        "1 on a data write, wrong memory #", "1 on data writes, wrong memory #", "1 on a data read, wrong memory #",
+        "1 on a row, wrong memory #",
+    ] {
         each(call, &mut (0..5));
     }
+    each("data writes all stored, direction #", &mut (0..4));
+    each("data writes that leave memory, direction #", &mut (0..4));
     each("8, wrong font #", &mut (0..4));
     each("asleep, P# of SYSTEM SET stored", &mut (1..=8));
     each("asleep, $ has nothing to read", &mut [CSRR, MREAD].into_iter());

@@ -19,7 +19,8 @@ pub fn call(before: &Kept, font: &[u8], call: &Call, answer: u32, after: &Kept, 
     };
     counts.hit("answer #", &[number]);
     match call {
-        Call::Reset | Call::DataWrites(_) => {}
+        Call::Reset => {}
+        Call::DataWrites(bytes) => data_writes(&controller, before, bytes, number, counts),
         Call::CommandWrite(_) => handed_in_form(before, after, counts),
         Call::DataWrite(_) => {
             handed_in_form(before, after, counts);
@@ -81,6 +82,22 @@ fn data_write(controller: &Controller, before: &Kept, number: u8, after: &Kept, 
                 }
             }
         }
+        _ => {}
+    }
+}
+
+/// Data writes in one call: a run, where MWRITE is pending, and what comes after it.
+fn data_writes(controller: &Controller, before: &Kept, bytes: &[u8], number: u8, counts: &mut Counts) {
+    let Controller { pending, registers, .. } = *controller;
+    let inside = usize::from(registers.cursor) < before.memory.len();
+    match (number, pending) {
+        _ if bytes.is_empty() => counts.hit("no data writes in one call", &[]),
+        (1, _) => counts.hit("1 on data writes, wrong memory #", &[wrong_memory(before.memory.len())]),
+        (3, MWRITE) if registers.asleep => counts.hit("asleep, data writes with MWRITE pending get 3", &[]),
+        (0, MWRITE) => counts.hit("data writes all stored, direction #", &[registers.direction as u8]),
+        (7, MWRITE) if inside => counts.hit("data writes that leave memory, direction #", &[registers.direction as u8]),
+        (7, MWRITE) => counts.hit("data writes that start outside memory", &[]),
+        (0, _) => counts.hit("data writes all taken as parameters", &[]),
         _ => {}
     }
 }

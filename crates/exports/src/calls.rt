@@ -101,9 +101,11 @@ pub extern "C" fn exports_data_writes(controller: &mut [u8], memory: &mut [u8], 
         ≡ afterWrites (now (controller .entry)) (now (memory .entry)) (now (bytes .entry)) ⌝ }
 {
     if is_saved(controller) {
-        let mut c = read(controller);
+        let start = read(controller);
+        let run = start.write_run(memory, bytes);
+        let mut c = run.controller;
         let mut last: u32 = 0;
-        let mut i: usize = 0;
+        let mut i = run.length;
         while i < bytes.len() {
             let b = bytes[i];
             i += 1;

@@ -6,3 +6,5 @@ pub mod Settles
 pub mod Needed
 pub mod Demand
 pub mod Edges
+pub mod Strides
+pub mod WriteRuns

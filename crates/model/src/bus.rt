@@ -2,6 +2,7 @@
 use crate::Controller;
 use crate::Pending;
 use crate::Read;
+use crate::WriteRun;
 use crate::Written;
 use registers::Answer;
 use registers::Command;
@@ -14,6 +15,7 @@ ghost use mathlib.Core.List.{List};
 ghost use mathlib.Core.Path.{_≡_};
 ghost use Rattle.model.specs.Machine.{resetController, machine, writtenOutcome, readOutcome, withPending, ended};
 ghost use Rattle.model.specs.Bus.{ignored, served, commandWrite, dataWrite, cursorReads, addressByte, dataRead};
+ghost use Rattle.model.specs.WriteRun.{runOutcome, writeRunOutcome};
 
 // Whether a command is neither taken nor served: asleep, any but SYSTEM SET.
 fn ignored(command: Command, asleep: bool) -> bool
@@ -145,6 +147,26 @@ impl Controller {
         Written {
             controller: self.ended(),
             answer: Answer::Refused(Refusal::NotAllowed),
+        }
+    }
+
+    // The data writes of as many bytes, from the first on, as go into memory and are accepted.
+    pub fn write_run(mut self, memory: &mut [u8], bytes: &[u8]) -> WriteRun
+        ensures { λ r. ⌜ writeRunOutcome r (now (memory .exit)) ≡ runOutcome (machine self (now (memory .entry))) (now (bytes .entry)) ⌝ }
+    {
+        if memory.len() != MEMORY_SIZE {
+            return WriteRun {
+                controller: self,
+                length: 0,
+            };
+        }
+        let command = self.served();
+        if command.is(Command::Mwrite) {
+            return self.write_memory_run(memory, bytes);
+        }
+        WriteRun {
+            controller: self,
+            length: 0,
         }
     }
 

@@ -30,3 +30,9 @@ pub struct Read {
     pub controller: Controller,
     pub answer: ReadAnswer,
 }
+
+// What a run of data writes leaves, and how many bytes it took.
+pub struct WriteRun {
+    pub controller: Controller,
+    pub length: usize,
+}

@@ -1,19 +1,27 @@
 -- Calls carried out one by one.
 use Prim.Native.Nat.{ℕ, suc, _+_, _-_, _<_}
 use mathlib.Core.Bool.{Bool}
-use mathlib.Core.List.{List, [], _∷_, map, append-nil}
+use mathlib.Core.List.{List, [], _∷_, _++_, map, append-nil}
 use mathlib.Core.Logic.{inl}
 use mathlib.Core.Path.{_≡_, refl, sym, subst, _∙_}
+use native.Mathlib.Nat.{add-zero}
 use native.Mathlib.Numerals.{add-one}
 use native.Mathlib.Omega.{arith}
-use lib.ListN.{length, getD, drop, replicate}
-use lib.Seq.{drop-cons}
-use Rattle.model.specs.Machine.{Outcome}
-use Rattle.model.specs.Calls.{BusCall, command, write, read, call}
+use lib.ListN.{length, getD, take, drop, replicate, take-append-drop}
+use lib.Seq.{drop-cons, drop-drop, length-take-le}
+use Rattle.registers.specs.Refusals.{accepted}
+use Rattle.model.specs.Machine.{Machine, Outcome}
+use Rattle.model.specs.Calls.{BusCall, command, write, read, call, after, outcomes}
+use Rattle.model.specs.Refresh.{All}
+use Rattle.model.specs.WriteRun.{runLength, RunOutcome, runOutcome}
+use Rattle.model.proofs.WriteRuns.{run-within, run-accepted}
 use Rattle.session.specs.Output.{Buffer, printedAll, flushes, OpenAfter}
 use Rattle.session.specs.Records.{busCalls, callLines}
 use Rattle.session.specs.Carrying.{Live, CarriesOutCalls}
 use Rattle.session.proofs.Buffers.{printed-both, flushes-both, open-both}
+
+abbrev moved : Live → Machine → Live
+moved s m = record { state = record { machine = m; output = s .state .output }; takes = s .takes }
 
 -- a call whose outcome is known and whose lines are printed
 pub one-call : (r k : ℕ) (s : Live) (c : BusCall) {w : Outcome} {o : Buffer} {takes : Bool} → w ≡ call (s .state .machine) c
@@ -42,6 +50,32 @@ data-more r i payload s {u = u} h e rest =
   where
     split : drop i payload ≡ getD payload i 0 ∷ drop (i + 1) payload
     split = rw add-one (drop-cons payload i 0 h)
+
+-- data writes that are accepted print nothing; those after them
+writes-first : (r k : ℕ) (s : Live) (bs cs : List ℕ) {u : Live} → All (λ o. o .reply ≡ accepted) (outcomes (s .state .machine) (map write bs))
+    → CarriesOutCalls r (k + length bs) (map write cs) (moved s (after (s .state .machine) (map write bs))) u → CarriesOutCalls r k (map write (bs ++ cs)) s u
+writes-first r k s [] cs all rest = rw add-zero at rest
+writes-first r k s (b ∷ bs) cs all rest =
+    let m = s .state .machine in
+    call-first r k s (write b) (map write (bs ++ cs))
+    (one-call r k s (write b) refl (rw (all .0)) (rw (all .0) (inl refl)))
+    (writes-first r (k + 1) (moved s (call m (write b) .machine)) bs cs (all .1) (rw further at rest))
+  where
+    further : k + suc (length bs) ≡ k + 1 + length bs
+    further = omega arith
+
+-- the run that a payload's data start with; the data after it
+pub run-first : (r : ℕ) (payload : List ℕ) (s : Live) {o : RunOutcome} {u : Live} → o ≡ runOutcome (s .state .machine) (drop 1 payload)
+    → CarriesOutCalls r (1 + o .length + 1) (map write (drop (1 + o .length) payload)) (moved s (o .machine)) u → CarriesOutCalls r 2 (map write (drop 1 payload)) s u
+run-first r payload s {u = u} e rest =
+    let m = s .state .machine in
+    let n = runLength m (drop 1 payload) in
+    subst (λ (bs : List ℕ). CarriesOutCalls r 2 (map write bs) s u) (take-append-drop n (drop 1 payload))
+    (writes-first r 2 s (take n (drop 1 payload)) (drop n (drop 1 payload)) (run-accepted m (drop 1 payload))
+    (rw (drop-drop, length-take-le n (drop 1 payload) (run-within m (drop 1 payload)), ← further n) (rw e at rest)))
+  where
+    further : (n : ℕ) → 1 + n + 1 ≡ 2 + n
+    further n = omega arith
 
 -- a payload's command byte, and its data
 pub command-first : (r : ℕ) (payload : List ℕ) (s : Live) {t u : Live} → 0 < length payload → CarriesOutCalls r 1 (command (getD payload 0 0) ∷ []) s t

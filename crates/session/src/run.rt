@@ -6,9 +6,9 @@ use crate::printing::print_read;
 use busfile::Kind;
 use model::Written;
 use registers::Answer;
-ghost use Prim.Native.Nat.{ℕ};
+ghost use Prim.Native.Nat.{ℕ, _<_};
 ghost use mathlib.Core.List.{List, [], _∷_, map};
-ghost use lib.ListN.{drop, replicate};
+ghost use lib.ListN.{length, drop, replicate};
 ghost use Rattle.model.specs.Calls.{command, write, read};
 ghost use Rattle.session.specs.Records.{busCalls};
 ghost use Rattle.session.specs.Carrying.{live, CarriesOutCalls, CarriesOutRecord};
@@ -28,18 +28,21 @@ fn run_command(s: Session, out: &mut [u8], b: u8, record: u64) -> Session
     }
 }
 
-// The bytes of a kind 1 record behind its command byte.
+// The bytes of a kind 1 record behind its command byte. The first of them that go into memory print nothing, and are written as one run.
 fn run_data(s: Session, memory: &mut [u8], out: &mut [u8], payload: &[u8], record: u64) -> Session
+    requires { ⌜ 0 < length (now payload) ⌝ }
     ensures { λ r. ⌜ CarriesOutCalls «record» 2 (map write (drop 1 (now (payload .entry))))
         (live s (now (memory .entry)) (now (out .entry))) (live r (now (memory .exit)) (now (out .exit))) ⌝ }
 {
     let controller = s.controller;
+    let run = controller.write_run(memory, &payload[1..]);
+    let controller = run.controller;
     let mut written = Written {
         controller: controller,
         answer: Answer::Accepted,
     };
     let mut o = s.output;
-    let mut i: usize = 1;
+    let mut i = 1 + run.length;
     while i < payload.len() {
         let b = payload[i];
         i += 1;

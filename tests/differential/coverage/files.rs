@@ -1,7 +1,7 @@
 //! Records, good and bad, and the lines of a file (01, 'Bus file and its program').
 
 use super::bus::BusWatch;
-use super::{limits, rows};
+use super::{limits, rows, runs};
 use reference::busfile::{next_record, Machine, Record, LONGEST_PAYLOAD};
 use support::counts::Counts;
 
@@ -94,13 +94,17 @@ impl FileWatch<'_> {
             counts.hit("payload of 65,532 bytes taken", &[]);
         }
         let mut refused_before = 0;
+        let mut commanded = self.machine.controller;
+        let mut answers = vec![];
         for (index, byte) in payload.iter().enumerate() {
             let before = self.machine.controller;
             let answer = self.machine.bus_write(index, *byte);
             if index == 0 {
                 self.bus.command_write(&before, *byte, answer, counts);
+                commanded = self.machine.controller;
             } else {
                 self.bus.data_write(&before, *byte, answer, counts);
+                answers.push(answer);
             }
             match answer {
                 Err(number) => refused_before = number,
@@ -108,6 +112,7 @@ impl FileWatch<'_> {
                 Ok(()) => {}
             }
         }
+        runs::watch(&commanded, &answers, counts);
     }
 
     fn reads(&mut self, count: u16, counts: &mut Counts) {

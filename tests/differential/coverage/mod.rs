@@ -7,5 +7,6 @@ mod dots;
 mod files;
 mod limits;
 mod rows;
+mod runs;
 
 pub use files::watch_file;

@@ -2,6 +2,7 @@
 // saved controller, and then it changes nothing. A data read answers with its value too, times 256.
 use crate::saved::is_saved;
 use crate::saved::read;
+use crate::saved::read_registers;
 use crate::saved::write;
 use model::Controller;
 use registers::Answer;
@@ -133,8 +134,8 @@ pub extern "C" fn exports_row(
         ≡ afterRow (now (controller .entry)) (now (memory .entry)) (now (font .entry)) frame row (now (dots .entry)) ⌝ }
 {
     if is_saved(controller) {
-        let c = read(controller);
-        let a = c.row(memory, font, frame, row, dots);
+        let r = read_registers(controller);
+        let a = row::compose(r, memory, font, frame, row, dots);
         return number(a);
     }
     255

@@ -106,18 +106,26 @@ fn registers(s: &[u8; 48]) -> Registers
     }
 }
 
+// The registers of 48 bytes: all that a row asks for.
+pub fn read_registers(s: &[u8]) -> Registers
+    requires { ⌜ length (now s) ≡ 48 ⌝ }
+    ensures { λ r. ⌜ r ≡ registersOf (now (s .entry)) ⌝ }
+{
+    let mut c = [0u8; 48];
+    bytes::copy(s, &mut c);
+    registers(&c)
+}
+
 // The controller of 48 bytes, whatever they are.
 pub fn read(s: &[u8]) -> Controller
     requires { ⌜ length (now s) ≡ 48 ⌝ }
     ensures { λ r. ⌜ r ≡ controllerOf (now (s .entry)) ⌝ }
 {
-    let mut c = [0u8; 48];
-    bytes::copy(s, &mut c);
     Controller {
-        registers: registers(&c),
+        registers: read_registers(s),
         pending: Pending {
-            command: Command::of(c[2]),
-            place: c[3],
+            command: Command::of(s[2]),
+            place: s[3],
         },
     }
 }

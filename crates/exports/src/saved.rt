@@ -106,7 +106,7 @@ fn registers(s: &[u8; 48]) -> Registers
     }
 }
 
-// The registers of 48 bytes: all that a row asks for.
+// The registers of 48 bytes, for a row. It alone calls this, so that it is inlined and the registers are not stored before they are read.
 pub fn read_registers(s: &[u8]) -> Registers
     requires { ⌜ length (now s) ≡ 48 ⌝ }
     ensures { λ r. ⌜ r ≡ registersOf (now (s .entry)) ⌝ }
@@ -121,11 +121,13 @@ pub fn read(s: &[u8]) -> Controller
     requires { ⌜ length (now s) ≡ 48 ⌝ }
     ensures { λ r. ⌜ r ≡ controllerOf (now (s .entry)) ⌝ }
 {
+    let mut c = [0u8; 48];
+    bytes::copy(s, &mut c);
     Controller {
-        registers: read_registers(s),
+        registers: registers(&c),
         pending: Pending {
-            command: Command::of(s[2]),
-            place: s[3],
+            command: Command::of(c[2]),
+            place: c[3],
         },
     }
 }

@@ -73,6 +73,12 @@ module _ (r : Registers) (memory font : List ℕ) (frame n : ℕ) where
   abbrev pub TwoDots : List ℕ → Type 0
   TwoDots line = (c j : ℕ) → c < ⁅ r .system .cr ⁆ → j < perColumn r → dotOf (bitsPerDot (r .grey)) (getD line c 0) j ≡ twoDot c j
 
+  -- the bytes of a layer mixed into a line
+  pub mixed-in : (layer : LayerRow) (mx : ℕ) (line : List ℕ) {next mixed : List ℕ} {m k : ℕ} → k ≡ m → next ≡ table k (bytes layer)
+      → mixed ≡ table m (λ c. mixByte mx (r .grey) (getD line c 0) (getD next c 0)) → mixed ≡ table m (λ c. mixByte mx (r .grey) (getD line c 0) (bytes layer c))
+  mixed-in layer mx line {next} {mixed} {m} q en e =
+      e ∙ same-table m _ _ (λ c h. ap (λ (x : ℕ). mixByte mx (r .grey) (getD line c 0) x) (element _ en q c h))
+
   -- layers 1 and 2 as the stages leave them: the bytes of the first, the cursor in them, the bytes of the second mixed in
   pub two-mixed : {one cursor mixed : List ℕ} {m1 m2 m3 : ℕ} → Composable r → m1 ≡ ⁅ r .system .cr ⁆ → m2 ≡ ⁅ r .system .cr ⁆ → m3 ≡ ⁅ r .system .cr ⁆
       → one ≡ table m1 (bytes (layer1 r n))

@@ -1,6 +1,5 @@
 // A row of dots.
 use crate::FrameSize;
-use crate::LayerRow;
 use crate::cursor::invert;
 use crate::expanding::expand;
 use crate::fetching::clear;
@@ -24,28 +23,9 @@ ghost use Prim.Native.Nat.{ℕ, _<_, _≤_};
 ghost use mathlib.Core.Path.{_≡_};
 ghost use lib.ListN.{length, getD};
 ghost use Rattle.registers.specs.Counts.{⁅_⁆};
-ghost use Rattle.row.specs.Dots.{bitsPerDot, perColumn, width, dotOf, layerByte, columnDot, shownDot, table, dots};
+ghost use Rattle.row.specs.Dots.{bitsPerDot, perColumn, width, dotOf, columnDot, shownDot, table, dots};
 ghost use Rattle.row.specs.Rows.{frameSize, rowOutcome, composedOutcome};
-ghost use Rattle.row.specs.Stages.{mixByte, Sized, Composable};
-
-// A layer's bytes mixed into the line.
-fn mix_layer(
-    r: Registers,
-    memory: &[u8],
-    font: &[u8],
-    frame: u32,
-    layer: LayerRow,
-    mx: u8,
-    line: &mut [u8],
-    scratch: &mut [u8],
-)
-    requires { ⌜ Sized (now memory) (now font) × (length (now line) ≤ 256) × (length (now scratch) ≡ length (now line)) ⌝ }
-    ensures { λ _. ⌜ now (line .exit) ≡ table (length (now (line .entry))) (λ c. mixByte mx (r .grey)
-        (getD (now (line .entry)) c 0) (layerByte r (now (memory .entry)) (now (font .entry)) frame layer c)) ⌝ }
-{
-    layer_bytes(r, memory, font, frame, layer, scratch);
-    mix_bytes(mx, r.grey, line, scratch);
-}
+ghost use Rattle.row.specs.Stages.{Sized, Composable};
 
 // The bytes of row n, all layers mixed.
 fn mix_layers(
@@ -66,18 +46,11 @@ fn mix_layers(
     let layer = layer1(r, n);
     layer_bytes(r, memory, font, frame, layer, line);
     invert(r, frame, layer, line);
-    mix_layer(r, memory, font, frame, layer2(r, n), mx, line, scratch);
+    layer_bytes(r, memory, font, frame, layer2(r, n), scratch);
+    mix_bytes(mx, r.grey, line, scratch);
     if three_layers(r.system.ws, r.overlay) {
-        mix_layer(
-            r,
-            memory,
-            font,
-            frame,
-            layer3(r, n),
-            third_mix(mx),
-            line,
-            scratch,
-        );
+        layer_bytes(r, memory, font, frame, layer3(r, n), scratch);
+        mix_bytes(third_mix(mx), r.grey, line, scratch);
     }
 }
 
@@ -96,9 +69,9 @@ fn paint(
         × (length (now line) ≤ 256) × (length (now out) ≡ width r) ⌝ }
     ensures { λ _. ⌜ now (out .exit) ≡ table (width r) (shownDot r (now (memory .entry)) (now (font .entry)) frame n) ⌝ }
 {
-    let per = dots_per_column(r.grey, r.system.fx) as usize;
     let count = line.len();
     mix_layers(r, memory, font, frame, n, line, &mut out[..count]);
+    let per = dots_per_column(r.grey, r.system.fx) as usize;
     expand(r.grey, per, line, out);
 }
 

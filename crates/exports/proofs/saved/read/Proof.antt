@@ -1,4 +1,5 @@
 use Rattle.exports.specs.Saved.{controllerOf}
+use Rattle.exports.proofs.SavedBytes.{copied}
 use borrow.Author.Needs.{needs}
 use Rattle.exports.proofs.saved.read.Statement.{statement}
 use Rattle.exports.proofs.saved.read.Tie as tie
@@ -8,8 +9,10 @@ unfolding controllerOf
 read-spec =
     tie.close
     (tie.spec
+    (λ c. search needs)
+    (λ c κs. search needs)
     (λ c κs. search needs)
     (λ c. search needs)
     (λ c κs. search needs)
     (λ c. search needs)
-    (λ c. rw (c .before .of .ensures, c .before .before .before .read-registers .ensures)))
+    (λ c. let p = c .before .before .before .before in let s = p .before .before .before in rw (c .of .ensures, c .before .registers .ensures, copied (s .args .s .now) _ (s .pre) (p .copy .ensures .1))))

@@ -15,7 +15,7 @@ use Rattle.row.specs.Dots.{dotOf}
 use Rattle.row.specs.Stages.{firstPairs, firstNibbles, firstByte, mixByte, thirdMix, DotsFit}
 use Rattle.row.proofs.Tables.{below2, below4}
 
-pub dot-or : (k a b j : ℕ) → dotOf k (bitOr a b) j ≡ bitOr (dotOf k a j) (dotOf k b j)
+dot-or : (k a b j : ℕ) → dotOf k (bitOr a b) j ≡ bitOr (dotOf k a j) (dotOf k b j)
 unfolding dotOf
 dot-or k a b j = rw (or-shr, or-mod)
 
@@ -23,7 +23,7 @@ pub dot-xor : (k a b j : ℕ) → dotOf k (bitXor a b) j ≡ bitXor (dotOf k a j
 unfolding dotOf
 dot-xor k a b j = rw (xor-shr, xor-mod)
 
-pub dot-and : (k a b j : ℕ) → dotOf k (bitAnd a b) j ≡ bitAnd (dotOf k a j) (dotOf k b j)
+dot-and : (k a b j : ℕ) → dotOf k (bitAnd a b) j ≡ bitAnd (dotOf k a j) (dotOf k b j)
 unfolding dotOf
 dot-and k a b j = rw (and-shr, and-mod)
 
@@ -122,25 +122,3 @@ mix-steps (suc (suc (suc mx))) x y z =
   where
     other : (k : ℕ) → k < 3 → (suc (suc (suc mx)) =? k) ≡ false
     other k h = ne-eqb (suc (suc (suc mx))) k (λ q. let z : suc (suc (suc mx)) ≡ k = q in omega arith)
-
--- Cases of mixing bytes that are one
-
--- below 3 MX mixes alike at every grey code
-pub plain-case : (mx grey a b k : ℕ) → mx ≡ k → k < 3 → mixByte k 0 a b ≡ mixByte mx grey a b
-unfolding mixByte
-plain-case mx grey a b k e h = go k h ∙ ap (λ (x : ℕ). mixByte x grey a b) (sym e)
-  where
-    go : (k : ℕ) → k < 3 → mixByte k 0 a b ≡ mixByte k grey a b
-    go zero h = refl
-    go (suc zero) h = refl
-    go (suc (suc zero)) h = refl
-    go (suc (suc (suc k))) h = absurd (omega arith)
-
--- from 3 on all are the first that is not 0
-pub first-case : (mx grey a b k : ℕ) → (mx ≡ 0 → ⊥) → (mx ≡ 1 → ⊥) → (mx ≡ 2 → ⊥) → grey ≡ k → mixByte 3 k a b ≡ mixByte mx grey a b
-unfolding mixByte
-first-case mx grey a b k n0 n1 n2 e = simp (ne-eqb mx 0 n0, ne-eqb mx 1 n1, ne-eqb mx 2 n2, e)
-
-pub nibbles-case : (grey a b : ℕ) → (grey ≡ 0 → ⊥) → (grey ≡ 1 → ⊥) → mixByte 3 2 a b ≡ mixByte 3 grey a b
-unfolding mixByte firstByte
-nibbles-case grey a b n0 n1 = simp (ne-eqb grey 0 n0, ne-eqb grey 1 n1)

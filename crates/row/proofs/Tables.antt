@@ -106,14 +106,14 @@ part-length l a m h = rw add-sub-cancel-left (length-take-le m (drop a l) (rw le
 -- Columns of p elements
 
 -- a column more, within the row
-pub column-room : {c n : ℕ} (p : ℕ) → c < n → c * p + p ≤ n * p
+column-room : {c n : ℕ} (p : ℕ) → c < n → c * p + p ≤ n * p
 column-room {c} {n} p h = subst (λ (x : ℕ). x ≤ n * p) (suc-mul c p) (mul-le-mul-right p h)
 
-pub column-next : (c p : ℕ) → c * p + p ≡ (c + 1) * p
+column-next : (c p : ℕ) → c * p + p ≡ (c + 1) * p
 column-next c p = sym (suc-mul c p) ∙ ap (λ (x : ℕ). x * p) (sym (add-one c))
 
 -- the column of an element, and its place there
-pub at-column : (f : ℕ → ℕ → ℕ) (c : ℕ) {p j : ℕ} → j < p → f c j ≡ f ((c * p + j) / p) ((c * p + j) % p)
+at-column : (f : ℕ → ℕ → ℕ) (c : ℕ) {p j : ℕ} → j < p → f c j ≡ f ((c * p + j) / p) ((c * p + j) % p)
 at-column f c h = rw (digits-div c h, digits-mod c h)
 
 -- c of n columns are in a list, up to a

@@ -85,6 +85,13 @@ const HALVES: [u8; 64] = [
     1,
 ];
 
+// The table above as a local: where it is named in a loop it is built anew for each use.
+fn half_dots() -> [u8; 64]
+    ensures { λ r. ⌜ r ≡ table 64 halfDot ⌝ }
+{
+    HALVES
+}
+
 // The dots of half a byte.
 fn spread_half(halves: &[u8], half: u8, out: &mut [u8])
     requires { ⌜ (now halves ≡ table 64 halfDot) × (half < 16) × (length (now out) ≡ 4) ⌝ }
@@ -161,7 +168,7 @@ fn expand_bits(per: usize, line: &[u8], out: &mut [u8])
     requires { ⌜ (per ≤ 8) × (length (now out) ≡ length (now line) * per) ⌝ }
     ensures { λ _. ⌜ now (out .exit) ≡ table (length (now (line .entry)) * per) (expandedDot 1 per (now (line .entry))) ⌝ }
 {
-    let halves = HALVES;
+    let halves = half_dots();
     let mut c: usize = 0;
     let mut at: usize = 0;
     while c < line.len() {

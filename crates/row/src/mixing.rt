@@ -51,8 +51,8 @@ fn mix_byte(mx: u8, grey: u8, a: u8, b: u8) -> u8
     first_nibbles(a, b)
 }
 
-// One loop for all cases; the callers' numbers make it a loop of its own for each.
-fn mix_all(mx: u8, grey: u8, line: &mut [u8], layer: &[u8])
+// The bytes of a layer mixed into those before it. MX and the grey code stay, so that the compiler makes a loop for each case.
+pub fn mix_bytes(mx: u8, grey: u8, line: &mut [u8], layer: &[u8])
     requires { ⌜ length (now layer) ≡ length (now line) ⌝ }
     ensures { λ _. ⌜ now (line .exit) ≡ table (length (now (line .entry)))
         (λ c. mixByte mx grey (getD (now (line .entry)) c 0) (getD (now (layer .entry)) c 0)) ⌝ }
@@ -62,35 +62,6 @@ fn mix_all(mx: u8, grey: u8, line: &mut [u8], layer: &[u8])
         line[i] = mix_byte(mx, grey, line[i], layer[i]);
         i += 1;
     }
-}
-
-// The bytes of a layer mixed into those before it.
-pub fn mix_bytes(mx: u8, grey: u8, line: &mut [u8], layer: &[u8])
-    requires { ⌜ length (now layer) ≡ length (now line) ⌝ }
-    ensures { λ _. ⌜ now (line .exit) ≡ table (length (now (line .entry)))
-        (λ c. mixByte mx grey (getD (now (line .entry)) c 0) (getD (now (layer .entry)) c 0)) ⌝ }
-{
-    if mx == 0 {
-        mix_all(0, 0, line, layer);
-        return;
-    }
-    if mx == 1 {
-        mix_all(1, 0, line, layer);
-        return;
-    }
-    if mx == 2 {
-        mix_all(2, 0, line, layer);
-        return;
-    }
-    if grey == 0 {
-        mix_all(3, 0, line, layer);
-        return;
-    }
-    if grey == 1 {
-        mix_all(3, 1, line, layer);
-        return;
-    }
-    mix_all(3, 2, line, layer);
 }
 
 // How layer 3 is mixed into the mix of layers 1 and 2.

@@ -1,12 +1,13 @@
 use native.Mathlib.Omega.{arith}
 use mathlib.Core.Logic.{⊎-elim}
-use mathlib.Core.Path.{refl, sym, ap, _∙_}
+use mathlib.Core.Path.{sym, ap, _∙_}
+use borrow.Author.Needs.{needs}
 use Prim.Native.Nat.{_-_}
 use native.Mathlib.Nat.{le-of-eq}
 use lib.ListN.{length, getD}
-use Rattle.row.specs.Dots.{dotOf, table}
+use Rattle.row.specs.Dots.{dotOf}
 use Rattle.row.specs.Stages.{halfDot, expandedDot}
-use Rattle.row.proofs.Tables.{part-length, Columns, no-columns, next-room, next-length, next-column, all-columns}
+use Rattle.row.proofs.Tables.{length-table, part-length, Columns, no-columns, next-room, next-length, next-column, all-columns}
 use Rattle.row.proofs.expanding.expand_bits.Statement.{statement}
 use Rattle.row.proofs.expanding.expand_bits.Tie as tie
 
@@ -17,7 +18,7 @@ abbrev μ-loop : tie.MeasureT-loop
 μ-loop per line out₀ halves c₀ at₀ out c at = length line - c
 
 loop-holds : tie.Need-loop-holds Inv-loop μ-loop
-loop-holds c = no-columns _ _ _ _ (c .before .before .pre .1)
+loop-holds c = no-columns _ _ _ _ (c .before .before .before .pre .1)
 
 add-next : tie.Need-add-next Inv-loop μ-loop
 add-next c = omega (arith, next-room (c .before .loop .inv) (c .loop-test .taken))
@@ -26,7 +27,7 @@ add-end : tie.Need-add-end Inv-loop μ-loop
 add-end c = omega (arith, next-room (c .before .loop .inv) (c .loop-test .taken))
 
 slice-aggregate-spread-eight : tie.Need-slice-aggregate-spread-eight Inv-loop μ-loop
-slice-aggregate-spread-eight c = refl
+slice-aggregate-spread-eight c = sym (ap length (c .before .before .before .before .half-dots .ensures) ∙ length-table 64 halfDot)
 
 shared-slice-read-spread-eight : tie.Need-shared-slice-read-spread-eight Inv-loop μ-loop
 shared-slice-read-spread-eight c = omega arith
@@ -41,8 +42,7 @@ part-spread-eight-end : tie.Need-part-spread-eight-end Inv-loop μ-loop
 part-spread-eight-end c = omega arith
 
 spread-eight-requires : tie.Need-spread-eight-requires Inv-loop μ-loop
-unfolding table halfDot dotOf
-spread-eight-requires c κs = (refl, part-length (c .before .before .before .before .before .loop .out) _ 8 (c .before .before .before .if1 .taken))
+spread-eight-requires c κs = (c .before .before .before .before .before .before .half-dots .ensures, part-length (c .before .before .before .before .before .loop .out) _ 8 (c .before .before .before .if1 .taken))
 
 shared-slice-read-spread-bits : tie.Need-shared-slice-read-spread-bits Inv-loop μ-loop
 shared-slice-read-spread-bits c = omega arith
@@ -73,12 +73,12 @@ loop-again c =
     let k = i .before .loop .inv in
     let h = i .loop-test .taken in
     ⊎-elim
-    (λ w. next-column k _ h (w .7) (ap length (w .7) ∙ w .5 .given .1) (i .before .before .before .before .pre .0) (w .4 .ensures))
+    (λ w. next-column k _ h (w .7) (ap length (w .7) ∙ w .5 .given .1) (i .before .before .before .before .before .pre .0) (w .4 .ensures))
     (λ w. next-column k _ h (w .6) (ap length (w .6) ∙ w .4 .given .1) (le-of-eq (sym (next-length k h))) (w .3 .ensures))
     (c .if1 .came)
 
 same-length : tie.Need-same-length Inv-loop μ-loop
-same-length c = c .before .loop .inv .size ∙ sym (c .before .before .before .before .pre .1)
+same-length c = c .before .loop .inv .size ∙ sym (c .before .before .before .before .before .pre .1)
 
 returns : tie.Need-returns Inv-loop μ-loop
 unfolding expandedDot
@@ -90,6 +90,7 @@ expand-bits-spec =
     (tie.spec
     Inv-loop
     μ-loop
+    (λ c κs. search needs)
     loop-holds
     add-next
     add-end

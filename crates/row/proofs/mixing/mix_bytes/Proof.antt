@@ -1,60 +1,42 @@
 use native.Mathlib.Omega.{arith}
 use borrow.Author.Needs.{needs}
-use mathlib.Core.Path.{refl, _∙_}
-use Rattle.row.proofs.Tables.{same-table}
-use Rattle.row.proofs.MixedBytes.{plain-case, first-case, nibbles-case}
+use mathlib.Core.Path.{_∙_, ap}
+use Prim.Native.Nat.{ℕ, _-_}
+use lib.ListN.{length, getD}
+use Rattle.row.specs.Stages.{mixByte}
+use Rattle.row.proofs.InPlace.{Replaced, none-replaced, one-more, all-replaced}
 use Rattle.row.proofs.mixing.mix_bytes.Statement.{statement}
 use Rattle.row.proofs.mixing.mix_bytes.Tie as tie
 
-returns : tie.Need-returns
-returns c = let t = c .before .before .before .before in c .before .before .mix-all .ensures ∙ same-table _ _ _ (λ x h. plain-case _ _ _ _ 0 (t .if1 .taken) (omega arith))
+abbrev Inv-loop : tie.InvT-loop
+Inv-loop mx grey line₀ layer i₀ line i = Replaced (λ c. mixByte mx grey (getD line₀ c 0) (getD layer c 0)) line₀ line i
 
-returns-2 : tie.Need-returns-2
-returns-2 c = let t = c .before .before .before .before in c .before .before .mix-all2 .ensures ∙ same-table _ _ _ (λ x h. plain-case _ _ _ _ 1 (t .if2 .taken) (omega arith))
+abbrev μ-loop : tie.MeasureT-loop
+μ-loop mx grey line₀ layer i₀ line i = length line₀ - i
 
-returns-3 : tie.Need-returns-3
-returns-3 c = let t = c .before .before .before .before in c .before .before .mix-all3 .ensures ∙ same-table _ _ _ (λ x h. plain-case _ _ _ _ 2 (t .if3 .taken) (omega arith))
+loop-less : tie.Need-loop-less Inv-loop μ-loop
+loop-less c = omega (arith, c .before .before .before .before .loop .inv .same)
 
-returns-4 : tie.Need-returns-4
-returns-4 c =
-    let t = c .before .before .before .before in
-    let l = t .before in
-    c .before .before .mix-all4 .ensures
-    ∙ same-table _ _ _ (λ x h. first-case _ _ _ _ 0 (l .before .before .if1 .left) (l .before .if2 .left) (l .if3 .left) (t .if4 .taken))
-
-returns-5 : tie.Need-returns-5
-returns-5 c =
-    let t = c .before .before .before .before in
-    let l = t .before .before in
-    c .before .before .mix-all5 .ensures
-    ∙ same-table _ _ _ (λ x h. first-case _ _ _ _ 1 (l .before .before .if1 .left) (l .before .if2 .left) (l .if3 .left) (t .if5 .taken))
-
-returns-6 : tie.Need-returns-6
-returns-6 c =
-    let t = c .before .before .before .before in
-    let l = t .before .before in
-    c .before .before .mix-all6 .ensures
-    ∙ same-table _ _ _ (λ x h. nibbles-case _ _ _ (t .before .if4 .left) (t .if5 .left) ∙ first-case _ _ _ _ _ (l .before .before .if1 .left) (l .before .if2 .left) (l .if3 .left) refl)
+loop-again : tie.Need-loop-again Inv-loop μ-loop
+loop-again c =
+    let l = c .before .before .before .before .loop in
+    let a = c .before .before .before .before .before .before .before .args in
+    one-more _ _ _ _ _ (l .inv) (omega arith)
+    (c .mix-byte .ensures ∙ ap (λ (x : ℕ). mixByte (a .mx) (a .grey) x (getD (a .layer .now) (l .i) 0)) (l .inv .rest (l .i) (omega arith)))
 
 pub mix-bytes-spec : {M : Type 1} → statement M
 mix-bytes-spec =
     tie.close
     (tie.spec
+    Inv-loop
+    μ-loop
+    (λ c. none-replaced _ _)
+    (λ c. omega arith)
+    (λ c. omega (arith, c .before .before .before .loop .inv .same, c .before .before .before .before .before .before .pre))
     (λ c κs. search needs)
-    (λ c. search needs)
-    returns
-    (λ c κs. search needs)
-    (λ c. search needs)
-    returns-2
-    (λ c κs. search needs)
-    (λ c. search needs)
-    returns-3
-    (λ c κs. search needs)
-    (λ c. search needs)
-    returns-4
-    (λ c κs. search needs)
-    (λ c. search needs)
-    returns-5
-    (λ c κs. search needs)
-    (λ c. search needs)
-    returns-6)
+    (λ c. omega arith)
+    (λ c. omega arith)
+    loop-less
+    loop-again
+    (λ c. c .before .loop .inv .same)
+    (λ c. all-replaced _ _ _ _ (c .before .loop .inv) (omega arith)))

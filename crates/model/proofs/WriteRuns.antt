@@ -1,6 +1,6 @@
 -- Runs of data writes: all accepted, and as long as can be; and a run as bytes stored a stride apart.
 use Prim.Native.Nat.{ℕ, suc, _+_, _%_, _<_, _≤_, zero-le, suc-le-suc}
-use mathlib.Core.Bool.{Bool, true, false, _&&_}
+use mathlib.Core.Bool.{Bool, true, false, not, _&&_}
 use mathlib.Core.List.{List, [], _∷_, map}
 use mathlib.Core.Path.{_≡_, refl, sym, subst, _∙_}
 use native.Mathlib.Nat.{add-zero, zero-add, le-of-suc-le-suc}
@@ -8,14 +8,14 @@ use native.Mathlib.Omega.{arith}
 use lib.Dec.{T}
 use lib.ListN.{length, set, take, length-set}
 use borrow.Author.Tests.{eq-eqb}
-use Rattle.choice.specs.Choice.{_<?_}
+use Rattle.choice.specs.Choice.{if_then_else_, _<?_}
 use Rattle.choice.proofs.Cases.{choose}
 use Rattle.registers.specs.declared.Command.the-variants.{Mwrite}
 use Rattle.registers.specs.Commands.{_is_}
-use Rattle.registers.specs.Refusals.{accepted}
+use Rattle.registers.specs.Refusals.{accepted, refused}
 use Rattle.registers.specs.Sizes.{memorySize}
 use Rattle.model.specs.declared.Controller.{Controller}
-use Rattle.model.specs.Machine.{Machine, machine, accept, controller}
+use Rattle.model.specs.Machine.{Machine, machine, accept, refuse, controller}
 use Rattle.model.specs.Bus.{sized, served, accessed, inside, dataWrite, writeMemory}
 use Rattle.model.specs.Calls.{write, after, outcomes}
 use Rattle.model.specs.Refresh.{All}
@@ -32,7 +32,7 @@ stored : (m : Machine) (b : ℕ) → stores m ≡ true → dataWrite m b ≡ acc
 unfolding stores dataWrite writeMemory
 stored m b h = let t = all-true (sized m) (served (m .controller) is Mwrite) (inside m) h in rw (t .0, t .1, t .2)
 
-pub stores-accepted : (m : Machine) (b : ℕ) → stores m ≡ true → dataWrite m b .reply ≡ accepted
+stores-accepted : (m : Machine) (b : ℕ) → stores m ≡ true → dataWrite m b .reply ≡ accepted
 stores-accepted m b h = rw (stored m b h)
 
 pub run-within : (m : Machine) (bs : List ℕ) → runLength m bs ≤ length bs
@@ -45,7 +45,20 @@ run-accepted m (b ∷ bs) =
     choose (λ (n : ℕ). All (λ o. o .reply ≡ accepted) (outcomes m (map write (take n (b ∷ bs))))) (stores m) _ _
     (λ h. (stores-accepted m b h, run-accepted (dataWrite m b .machine) bs)) (λ h. tt)
 
--- the next data write after a run does not go into memory, or is refused
+-- a data write that MWRITE serves and that does not store is refused
+pub not-stored : (m : Machine) (b : ℕ) → stores m ≡ false → (served (m .controller) is Mwrite) ≡ true → dataWrite m b .reply ≡ refused (if sized m then 7 else 1)
+unfolding stores dataWrite writeMemory
+not-stored m b h w = rw w (go (sized m) (inside m) (rw w at h))
+  where
+    go : (s i : Bool) → (s && true && i) ≡ false
+        → (if not s then refuse 1 (m .controller) (m .memory)
+        else if i then accept (accessed (m .controller)) (set (m .memory) (m .controller .registers .cursor .address) b)
+        else refuse 7 (accessed (m .controller)) (m .memory)) .reply ≡ refused (if s then 7 else 1)
+    go false i e = refl
+    go true false e = refl
+    go true true e = absurd (subst T e tt)
+
+-- the next data write after a run does not store: MWRITE does not serve it, or it is refused
 pub run-ends : (m : Machine) (bs : List ℕ) → runLength m bs < length bs → stores (after m (map write (take (runLength m bs) bs))) ≡ false
 run-ends m [] = λ h. absurd (omega arith)
 run-ends m (b ∷ bs) =

@@ -88,7 +88,7 @@ const PLAIN: [&str; 74] = [
 ];
 
 /// Events that are needed with each of some numbers.
-const WITH_NUMBER: [(&str, &[u8]); 43] = [
+const WITH_NUMBER: [(&str, &[u8]); 45] = [
     ("refusal # printed", &[2, 3, 4, 5, 6, 7, 8, 9, 10, 11, 12, 13, 14, 15]),
     ("command $ accepted", &CODES),
     ("two layers, SL1 < SL2, before the split, OV #", &[0, 1]),
@@ -107,6 +107,8 @@ const WITH_NUMBER: [(&str, &[u8]); 43] = [
     ("cursor with FC 2 at frame # of 32", &[22, 23]),
     ("cursor with FC 3 at frame # of 64", &[44, 45]),
     ("text code fetched at 8000h or above, M0 #", &[0, 1]),
+    ("row that leaves memory behind its first column, text #", &[0, 1]),
+    ("row that comes back to 0000h behind its first column, text #", &[0, 1]),
     ("glyph of CG RAM with M2 #", &[0, 1]),
     ("frame shown at [FX] #", &[1, 2, 3, 4, 5, 6, 7, 8]),
     ("10 at [FX] #", &[9, 16]),

@@ -106,7 +106,7 @@ fn registers(s: &[u8; 48]) -> Registers
     }
 }
 
-// The registers of 48 bytes, for a row. It alone calls this, so that it is inlined and the registers are not stored before they are read.
+// The registers of 48 bytes. Only the call for a row uses this, so that it is inlined and the registers are not stored first.
 pub fn read_registers(s: &[u8]) -> Registers
     requires { ⌜ length (now s) ≡ 48 ⌝ }
     ensures { λ r. ⌜ r ≡ registersOf (now (s .entry)) ⌝ }

@@ -10,7 +10,7 @@ ghost use Prim.Native.Nat.{_+_, _≤_};
 ghost use mathlib.Core.Path.{_≡_};
 ghost use lib.ListN.{length, getD};
 ghost use Rattle.registers.specs.Sizes.{fontSize};
-ghost use Rattle.row.specs.Glyphs.{fetch, glyphByte, blockByte};
+ghost use Rattle.row.specs.Glyphs.{fetch, glyphByte};
 ghost use Rattle.row.specs.Dots.{table, layerByte};
 ghost use Rattle.row.specs.Stages.{lineAddress, Sized};
 
@@ -52,15 +52,19 @@ fn memory_bytes(memory: &[u8], start: u16, line: &mut [u8])
 }
 
 // A glyph row of each code, in the code's place.
-fn glyph_bytes(r: Registers, memory: &[u8], font: &[u8], row: u16, line: &mut [u8])
+fn glyph_bytes(
+    m0: bool,
+    m2: bool,
+    cgram: u16,
+    memory: &[u8],
+    font: &[u8],
+    row: u16,
+    line: &mut [u8],
+)
     requires { ⌜ length (now font) ≡ fontSize ⌝ }
-    ensures { λ _. ⌜ now (line .exit)
-        ≡ table (length (now (line .entry))) (λ c. glyphByte (r .system .m0) (r .system .m2) (r .cgram)
-        (now (memory .entry)) (now (font .entry)) (getD (now (line .entry)) c 0) row) ⌝ }
+    ensures { λ _. ⌜ now (line .exit) ≡ table (length (now (line .entry)))
+        (λ c. glyphByte m0 m2 cgram (now (memory .entry)) (now (font .entry)) (getD (now (line .entry)) c 0) row) ⌝ }
 {
-    let m0 = r.system.m0;
-    let m2 = r.system.m2;
-    let cgram = r.cgram;
     let mut c: usize = 0;
     while c < line.len() {
         line[c] = glyph_byte(m0, m2, cgram, memory, font, line[c], row);
@@ -68,24 +72,7 @@ fn glyph_bytes(r: Registers, memory: &[u8], font: &[u8], row: u16, line: &mut [u
     }
 }
 
-// The bytes of row q of a block, text or graphics.
-fn block_bytes(r: Registers, memory: &[u8], font: &[u8], block: u8, q: u16, line: &mut [u8])
-    requires { ⌜ Sized (now memory) (now font) × (length (now line) ≤ 256) ⌝ }
-    ensures { λ _. ⌜ now (line .exit)
-        ≡ table (length (now (line .entry))) (blockByte r (now (memory .entry)) (now (font .entry)) block q) ⌝ }
-{
-    let start = sad(r.blocks, block);
-    let system = r.system;
-    if is_text(r.overlay, block) {
-        let height = system.fy.count();
-        memory_bytes(memory, line_address(start, system.ap, q / height.0), line);
-        glyph_bytes(r, memory, font, q % height.0, line);
-        return;
-    }
-    memory_bytes(memory, line_address(start, system.ap, q), line);
-}
-
-// The bytes of a layer: zeros where it shows nothing, or FP darkens its block.
+// The bytes of a layer: zeros where it shows nothing, or FP darkens its block; else those of a row of text or graphics.
 pub fn layer_bytes(
     r: Registers,
     memory: &[u8],
@@ -102,7 +89,23 @@ pub fn layer_bytes(
         LayerRow::Nothing => clear(line),
         LayerRow::Block(block, q) => {
             if is_lit(r.display.fp, block, frame) {
-                block_bytes(r, memory, font, block, q, line);
+                let system = r.system;
+                let start = sad(r.blocks, block);
+                if is_text(r.overlay, block) {
+                    let height = system.fy.count();
+                    memory_bytes(memory, line_address(start, system.ap, q / height.0), line);
+                    glyph_bytes(
+                        system.m0,
+                        system.m2,
+                        r.cgram,
+                        memory,
+                        font,
+                        q % height.0,
+                        line,
+                    );
+                    return;
+                }
+                memory_bytes(memory, line_address(start, system.ap, q), line);
                 return;
             }
             clear(line);

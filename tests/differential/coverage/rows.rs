@@ -69,10 +69,17 @@ enum Purpose {
 
 fn fetches(picture: &Picture, block: Block, row: u32, column: u32, counts: &mut Counts) {
     let r = picture.registers;
-    if !is_text(r, block) {
-        return fetch(picture, graphics_sum(r, block, row, column), Purpose::Graphics, counts);
+    let text = is_text(r, block);
+    let sum = if text { code_sum(r, block, row, column) } else { graphics_sum(r, block, row, column) };
+    if column > 0 && sum % 65_536 == 32_768 {
+        counts.hit("row that leaves memory behind its first column, text #", &[u8::from(text)]);
     }
-    let sum = code_sum(r, block, row, column);
+    if column > 0 && sum % 65_536 == 0 {
+        counts.hit("row that comes back to 0000h behind its first column, text #", &[u8::from(text)]);
+    }
+    if !text {
+        return fetch(picture, sum, Purpose::Graphics, counts);
+    }
     fetch(picture, sum, Purpose::Code, counts);
     glyph(picture, picture.fetch(sum), glyph_row(r, block, row), counts);
 }

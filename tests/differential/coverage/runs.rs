@@ -42,10 +42,10 @@ pub fn watch(before: &Controller, answers: &[Result<(), u8>], counts: &mut Count
 /// Whether an address of a run is on the other side of FFFFh from the one before it.
 fn wraps(before: &Controller, stored: usize) -> bool {
     let r = &before.registers;
-    let (ap, last) = (usize::from(r.ap), usize::from(r.cursor));
+    let (ap, first) = (usize::from(r.ap), usize::from(r.cursor));
     match r.direction {
-        Direction::Up => last < ap * (stored - 1),
-        Direction::Down => last + ap * (stored - 1) > 0xFFFF,
+        Direction::Up => first < ap * (stored - 1),
+        Direction::Down => first + ap * (stored - 1) > 0xFFFF,
         Direction::Right | Direction::Left => false,
     }
 }

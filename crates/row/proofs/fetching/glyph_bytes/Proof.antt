@@ -8,10 +8,10 @@ use Rattle.row.proofs.fetching.glyph_bytes.Statement.{statement}
 use Rattle.row.proofs.fetching.glyph_bytes.Tie as tie
 
 abbrev Inv-loop : tie.InvT-loop
-Inv-loop memory font row line₀ m0 m2 cgram c₀ line c = Replaced (λ x. glyphByte m0 m2 cgram memory font (getD line₀ x 0) row) line₀ line c
+Inv-loop m0 m2 cgram memory font row line₀ c₀ line c = Replaced (λ x. glyphByte m0 m2 cgram memory font (getD line₀ x 0) row) line₀ line c
 
 abbrev μ-loop : tie.MeasureT-loop
-μ-loop memory font row line₀ m0 m2 cgram c₀ line c = length line₀ - c
+μ-loop m0 m2 cgram memory font row line₀ c₀ line c = length line₀ - c
 
 loop-less : tie.Need-loop-less Inv-loop μ-loop
 loop-less c = omega (arith, c .before .before .before .loop .inv .same)
@@ -22,7 +22,7 @@ loop-again c =
     let a = c .before .before .before .before .before .before .before .args in
     one-more _ _ _ _ _ (l .inv) (omega arith)
     (c .glyph-byte .ensures
-    ∙ ap (λ (x : ℕ). glyphByte (a .r .system .m0) (a .r .system .m2) (a .r .cgram) (a .memory .now) (a .font .now) x (a .row)) (l .inv .rest (l .c) (omega arith)))
+    ∙ ap (λ (x : ℕ). glyphByte (a .m0) (a .m2) (a .cgram) (a .memory .now) (a .font .now) x (a .row)) (l .inv .rest (l .c) (omega arith)))
 
 pub glyph-bytes-spec : {M : Type 1} → statement M
 glyph-bytes-spec =

@@ -14,8 +14,8 @@ pub struct Times {
 /// One dot at a time takes one of so many bands of a frame in a round: a sample is then too short to be cut in two by other work.
 const BANDS: u32 = 8;
 
-/// Ours takes so many whole frames in a round, as a host asks for them: a band would be over before the code and the bytes that it
-/// reads are in the processor's caches.
+/// Ours takes so many whole frames in a round, as a host asks for them: a band is over in microseconds, and its dots cost up to three
+/// quarters more (docs/SPEED.md has both).
 const FRAMES: u32 = 4;
 
 /// How often a band is filled in a round: filling is over too soon for the clock.

@@ -5,27 +5,40 @@ use crate::{bytes, rows, setups};
 
 const ROUNDS: u32 = 80;
 
-/// Prints a line for each set-up and for each record: our time, the slower composer's (or nothing), and fill's or copy's.
-/// The rounds go through all of them in turn, so that what disturbs the machine disturbs all alike.
+/// Prints a line for each set-up in frames, for each in bands, and for each record: our time, the slower composer's (or nothing), and fill's
+/// or copy's. The rounds go through all of them in turn, so that what disturbs the machine disturbs all alike.
 pub fn print() {
     let (setups, records) = (setups::setups(), bytes::records());
-    let mut samples = vec![[vec![], vec![], vec![]]; setups.len() + records.len()];
+    let mut of_frames = vec![Samples::default(); setups.len()];
+    let mut of_bands = of_frames.clone();
+    let mut of_bytes = vec![Samples::default(); records.len()];
     for round in 0..ROUNDS {
-        let (of_rows, of_bytes) = samples.split_at_mut(setups.len());
-        for (setup, [ours, theirs, fill]) in setups.iter().zip(of_rows) {
+        for (index, setup) in setups.iter().enumerate() {
             let times = rows::measure(setup, round);
-            ours.push(times.ours);
-            theirs.push(times.one_dot_at_a_time);
-            fill.push(times.fill);
+            of_frames[index].add(times.frames, times.one_dot_at_a_time, times.fill);
+            of_bands[index].add(times.band, times.one_dot_at_a_time, times.fill);
         }
-        for (record, [ours, _, copy]) in records.iter().zip(of_bytes) {
+        for (samples, record) in of_bytes.iter_mut().zip(&records) {
             let times = bytes::measure(record);
-            ours.push(times.ours);
-            copy.push(times.copy);
+            samples.add(times.ours, f64::NAN, times.copy);
         }
     }
-    for [ours, theirs, base] in samples {
-        let theirs = if theirs.is_empty() { f64::NAN } else { median(theirs) };
-        println!("{} {} {}", median(ours), theirs, median(base));
+    for Samples { ours, slower, base } in [of_frames, of_bands, of_bytes].into_iter().flatten() {
+        println!("{} {} {}", median(ours), median(slower), median(base));
+    }
+}
+
+#[derive(Clone, Default)]
+struct Samples {
+    ours: Vec<f64>,
+    slower: Vec<f64>,
+    base: Vec<f64>,
+}
+
+impl Samples {
+    fn add(&mut self, ours: f64, slower: f64, base: f64) {
+        self.ours.push(ours);
+        self.slower.push(slower);
+        self.base.push(base);
     }
 }

@@ -6,16 +6,16 @@ use exported::{calls, saved};
 
 /// Times in nanoseconds a dot.
 pub struct Times {
-    pub ours: f64,
+    pub frames: f64,
+    pub band: f64,
     pub one_dot_at_a_time: f64,
     pub fill: f64,
 }
 
-/// One dot at a time takes one of so many bands of a frame in a round: a sample is then too short to be cut in two by other work.
+/// A band is one of so many parts of a frame: a sample of one dot at a time is then too short to be cut in two by other work.
 const BANDS: u32 = 8;
 
-/// Ours takes so many whole frames in a round, as a host asks for them: a band is over in microseconds, and its dots cost up to three
-/// quarters more (docs/SPEED.md has both).
+/// So many whole frames of ours are a sample too: a band of ours is over in microseconds, right after other code has run.
 const FRAMES: u32 = 4;
 
 /// How often a band is filled in a round: filling is over too soon for the clock.
@@ -30,12 +30,12 @@ pub fn measure(setup: &Setup, round: u32) -> Times {
     let dots = |rows: u32| width as f64 * f64::from(rows);
     let controller = saved::write(&setup.controller);
     let mut buffer = vec![0; width];
-    let ours = nanoseconds(|| {
-        for row in (0..FRAMES).flat_map(|_| 0..rows) {
-            calls::row(unknown(&controller), &setup.memory, &setup.font, 0, row, &mut buffer);
-            unknown(&buffer);
-        }
-    });
+    let mut ours = |row: u32| {
+        calls::row(unknown(&controller), &setup.memory, &setup.font, 0, row, &mut buffer);
+        unknown(&buffer);
+    };
+    let ours_of_band = nanoseconds(|| band().for_each(&mut ours));
+    let ours_of_frames = nanoseconds(|| (0..FRAMES).flat_map(|_| 0..rows).for_each(&mut ours));
     let one_dot_at_a_time = nanoseconds(|| {
         for row in band() {
             // That the row is accepted is seen by the check.
@@ -50,7 +50,8 @@ pub fn measure(setup: &Setup, round: u32) -> Times {
         }
     });
     Times {
-        ours: ours / dots(FRAMES * rows),
+        frames: ours_of_frames / dots(FRAMES * rows),
+        band: ours_of_band / dots(height),
         one_dot_at_a_time: one_dot_at_a_time / dots(height),
         fill: fill / dots(height) / FILLS as f64,
     }

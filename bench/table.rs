@@ -31,13 +31,13 @@ pub fn print(panel: &str, folder: &str, bench: &str, other: Option<&str>) -> Res
     lines.extend(program(&Program { panel, folder: PathBuf::from(folder) })?);
     let with_other = other.is_some();
     println!("| What | Unit | Ours |{} One dot at a time | Fill, copy, cat | One dot / ours | Ours / fill, copy, cat |",
-        if with_other { " Other | Other / ours |" } else { "" });
+        if with_other { " Other | Ours / other |" } else { "" });
     println!("|---|---|---:|{}---:|---:|---:|---:|", if with_other { "---:|---:|" } else { "" });
     for line in lines {
         let ratio = |above: Option<f64>, below: Option<f64>| Some(above? / below?);
         let mut cells = vec![line.what, line.unit.to_string(), number(line.ours)];
         if with_other {
-            cells.extend([number(line.other), number(ratio(line.other, line.ours))]);
+            cells.extend([number(line.other), number(ratio(line.ours, line.other))]);
         }
         cells.extend([number(line.slower), number(line.base), number(ratio(line.slower, line.ours)), number(ratio(line.ours, line.base))]);
         println!("| {} |", cells.join(" | "));
@@ -73,12 +73,13 @@ fn times(bench: &str, other: Option<&str>) -> Result<Vec<Line>, String> {
             Some(median(samples))
         }
     };
-    let rows = setups().into_iter().map(|setup| (setup.name, "ns a dot"));
-    let names = rows.chain(bytes::records().into_iter().map(|record| (record.name, "ns a byte")));
+    let rows = |how: &'static str| setups().into_iter().map(move |setup| (format!("{}{}", setup.name, how), "ns a dot"));
+    let records = bytes::records().into_iter().map(|record| (record.name.to_string(), "ns a byte"));
+    let names = rows("").chain(rows("; in bands")).chain(records);
     Ok(names
         .enumerate()
         .map(|(line, (what, unit))| Line {
-            what: what.to_string(),
+            what,
             unit,
             ours: of(&ours, line, 0),
             other: of(&others, line, 0),

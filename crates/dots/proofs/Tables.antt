@@ -117,16 +117,16 @@ at-column : (f : ℕ → ℕ → ℕ) (c : ℕ) {p j : ℕ} → j < p → f c j 
 at-column f c h = rw (digits-div c h, digits-mod c h)
 
 -- c of n columns are in a list, up to a
-pub record Columns (f : ℕ → ℕ → ℕ) (n p : ℕ) (l : List ℕ) (c a : ℕ) : Type 0 where
+pub record ColumnsDone (f : ℕ → ℕ → ℕ) (n p : ℕ) (l : List ℕ) (c a : ℕ) : Type 0 where
   pub within : c ≤ n
   pub end : a ≡ c * p
   pub size : length l ≡ n * p
   pub each : (k : ℕ) → k < a → getD l k 0 ≡ f (k / p) (k % p)
 
-pub no-columns : (f : ℕ → ℕ → ℕ) (n p : ℕ) (l : List ℕ) → length l ≡ n * p → Columns f n p l 0 0
+pub no-columns : (f : ℕ → ℕ → ℕ) (n p : ℕ) (l : List ℕ) → length l ≡ n * p → ColumnsDone f n p l 0 0
 no-columns f n p l e = record { within = zero-le; end = sym (zero-mul p); size = e; each = below-none _ }
 
-module _ {f : ℕ → ℕ → ℕ} {n p : ℕ} {l : List ℕ} {c a : ℕ} (k : Columns f n p l c a) where
+module _ {f : ℕ → ℕ → ℕ} {n p : ℕ} {l : List ℕ} {c a : ℕ} (k : ColumnsDone f n p l c a) where
   pub next-room : c < n → a + p ≤ length l
   next-room h = omega (arith, column-room p h)
 
@@ -135,7 +135,7 @@ module _ {f : ℕ → ℕ → ℕ} {n p : ℕ} {l : List ℕ} {c a : ℕ} (k : C
 
   -- it is the first p elements of a part
   pub next-column : {out ys : List ℕ} (zs : List ℕ) {m : ℕ} → c < n → out ≡ take a l ++ (ys ++ zs) → length out ≡ length l → p ≤ m → ys ≡ table m (f c)
-      → Columns f n p out (c + 1) (a + p)
+      → ColumnsDone f n p out (c + 1) (a + p)
   next-column {out} {ys} zs {m} h e len pm y = record {
     within = omega arith;
     end = ap (λ (x : ℕ). x + p) (k .end) ∙ column-next c p;

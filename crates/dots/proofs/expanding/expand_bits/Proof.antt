@@ -7,12 +7,12 @@ use native.Mathlib.Nat.{le-of-eq}
 use lib.ListN.{length, getD}
 use Rattle.dots.specs.Bytes.{dotOf}
 use Rattle.dots.specs.Expanded.{halfDot, expandedDot}
-use Rattle.dots.proofs.Tables.{length-table, part-length, Columns, no-columns, next-room, next-length, next-column, all-columns}
+use Rattle.dots.proofs.Tables.{length-table, part-length, ColumnsDone, no-columns, next-room, next-length, next-column, all-columns}
 use Rattle.dots.proofs.expanding.expand_bits.Statement.{statement}
 use Rattle.dots.proofs.expanding.expand_bits.Tie as tie
 
 abbrev Inv-loop : tie.InvT-loop
-Inv-loop per line out₀ halves c₀ at₀ out c at = Columns (λ x. dotOf 1 (getD line x 0)) (length line) per out c at
+Inv-loop per line out₀ halves c₀ at₀ out c at = ColumnsDone (λ x. dotOf 1 (getD line x 0)) (length line) per out c at
 
 abbrev μ-loop : tie.MeasureT-loop
 μ-loop per line out₀ halves c₀ at₀ out c at = length line - c

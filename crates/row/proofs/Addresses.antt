@@ -7,9 +7,9 @@ use native.Mathlib.Omega.{arith}
 use lib.ListN.{length, getD, take, drop, length-drop, drop-of-length-le}
 use lib.Seq.{take-length, getD-take, getD-drop, length-take-le}
 use lib.Pow.{pow-pos}
+use Rattle.dots.specs.Tables.{table}
+use Rattle.dots.proofs.Tables.{is-table}
 use Rattle.row.specs.Glyphs.{fetch}
-use Rattle.row.specs.Dots.{table}
-use Rattle.row.proofs.Tables.{is-table}
 
 -- addresses that are equal modulo 65,536 fetch the same byte
 pub fetch-at : (memory : List ℕ) (a b : ℕ) → a % 65536 ≡ b % 65536 → fetch memory a ≡ fetch memory b

@@ -7,13 +7,14 @@ use native.Mathlib.Omega.{arith}
 use lib.ListN.{length, getD}
 use Rattle.registers.specs.declared.Registers.{Registers}
 use Rattle.registers.specs.Counts.{⁅_⁆}
+use Rattle.dots.specs.Tables.{table}
+use Rattle.dots.proofs.Tables.{length-table, getD-table, same-table}
 use Rattle.row.specs.declared.LayerRow.the-variants.{Block}
 use Rattle.row.specs.Layers.{isText, sad}
 use Rattle.row.specs.Glyphs.{fetch, glyphByte, codeAddress, blockByte}
 use Rattle.row.specs.Flashing.{isLit}
-use Rattle.row.specs.Dots.{table, layerByte}
+use Rattle.row.specs.Dots.{layerByte}
 use Rattle.row.specs.Stages.{lineAddress}
-use Rattle.row.proofs.Tables.{length-table, getD-table, same-table}
 use Rattle.row.proofs.Addresses.{fetch-at}
 
 pub text-bytes : (r : Registers) (memory font : List ℕ) (block q n : ℕ) {start row : ℕ} {codes glyphs : List ℕ} → isText (r .overlay) block ≡ true

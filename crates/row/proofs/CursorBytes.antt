@@ -15,15 +15,16 @@ use Rattle.registers.specs.declared.Registers.{Registers}
 use Rattle.choice.specs.Choice.{if_then_else_, _<?_, _=?_}
 use Rattle.registers.specs.Counts.{⁅_⁆}
 use Rattle.choice.proofs.Below.{allBelow, all-below}
+use Rattle.dots.specs.Tables.{table}
+use Rattle.dots.specs.Bytes.{bitsPerDot, dotOf}
+use Rattle.dots.proofs.Tables.{lt-or-le, below2, is-table}
+use Rattle.dots.proofs.MixedBytes.{dot-xor, dot-lt}
 use Rattle.row.specs.declared.LayerRow.{LayerRow}
 use Rattle.row.specs.declared.LayerRow.the-variants.{Nothing, Block}
 use Rattle.row.specs.Layers.{isText, sad, threeLayers}
 use Rattle.row.specs.Glyphs.{codeAddress}
 use Rattle.row.specs.Cursor.{hasCursor, inverted}
-use Rattle.row.specs.Dots.{bitsPerDot, dotOf, table}
 use Rattle.row.specs.Stages.{lineAddress, firstBits, cursorByte, Composable}
-use Rattle.row.proofs.Tables.{lt-or-le, below2, is-table}
-use Rattle.row.proofs.MixedBytes.{dot-xor, dot-lt}
 
 abbrev bitsTest : ℕ → ℕ → Bool
 bitsTest n j = dotOf 1 (firstBits n) j =? (if j <? n then 1 else 0)

@@ -10,15 +10,19 @@ use lib.Pow.{pow-pos}
 use Rattle.registers.specs.declared.Registers.{Registers}
 use Rattle.choice.specs.Choice.{if_then_else_, _=?_}
 use Rattle.registers.specs.Counts.{⁅_⁆}
+use Rattle.dots.specs.Tables.{table}
+use Rattle.dots.specs.Mixing.{mix}
+use Rattle.dots.specs.Bytes.{bitsPerDot, dotOf}
+use Rattle.dots.specs.MixedBytes.{mixByte, thirdMix}
+use Rattle.dots.specs.Expanded.{expandedDot, DotsFit}
+use Rattle.dots.proofs.Tables.{same-table, element}
+use Rattle.dots.proofs.MixedBytes.{mix-dots, mix-steps}
 use Rattle.row.specs.declared.LayerRow.{LayerRow}
 use Rattle.row.specs.declared.LayerRow.the-variants.{Nothing}
 use Rattle.row.specs.Layers.{threeLayers, layer1, layer2, layer3}
 use Rattle.row.specs.Cursor.{hasCursor, inverted}
-use Rattle.row.specs.Mixing.{mix}
-use Rattle.row.specs.Dots.{bitsPerDot, dotsPerColumn, perColumn, width, dotOf, layerByte, columnDot, shownDot, dot, table, dots}
-use Rattle.row.specs.Stages.{cursorByte, mixByte, thirdMix, expandedDot, DotsFit, Composable}
-use Rattle.row.proofs.Tables.{same-table, element}
-use Rattle.row.proofs.MixedBytes.{mix-dots, mix-steps}
+use Rattle.row.specs.Dots.{dotsPerColumn, perColumn, width, layerByte, columnDot, shownDot, dot, dots}
+use Rattle.row.specs.Stages.{cursorByte, Composable}
 use Rattle.row.proofs.CursorBytes.{cursor-dots}
 
 pub columns-fit : (r : Registers) → Composable r → (0 < perColumn r) × DotsFit (r .grey) (perColumn r)

@@ -1,10 +1,6 @@
-pub mod Tables
-pub mod InPlace
-pub mod Halves
 pub mod Addresses
 pub mod FontIndex
 pub mod BlockBytes
-pub mod MixedBytes
 pub mod CursorBytes
 pub mod Dots
 pub mod Accepting

@@ -1,22 +1,20 @@
 -- Reference, 'Rows' and 'Width'; 01, 'Blocks and layers of a row': the dots of a row.
-use Prim.Native.Nat.{ℕ, zero, suc, _+_, _-_, _*_, _/_, _%_, _^_}
+use Prim.Native.Nat.{ℕ, _*_, _/_, _%_}
 use mathlib.Core.Bool.{not, _&&_}
-use mathlib.Core.List.{List, [], _∷_}
+use mathlib.Core.List.{List}
 use Rattle.registers.specs.declared.Code.{Code}
 use Rattle.registers.specs.declared.Registers.{Registers}
 use Rattle.choice.specs.Choice.{if_then_else_, _=?_}
 use Rattle.registers.specs.Counts.{⁅_⁆}
+use Rattle.dots.specs.Tables.{table}
+use Rattle.dots.specs.Mixing.{mix}
+use Rattle.dots.specs.Bytes.{bitsPerDot, dotOf}
 use Rattle.row.specs.Layers.{layer1, layer2, layer3}
 use Rattle.row.specs.Glyphs.{blockByte}
 use Rattle.row.specs.Flashing.{isLit}
 use Rattle.row.specs.Cursor.{hasCursor, inverted}
-use Rattle.row.specs.Mixing.{mix}
 use Rattle.row.specs.declared.LayerRow.{LayerRow}
 use Rattle.row.specs.declared.LayerRow.the-variants.{Nothing, Block}
-
--- GRAY SCALE 0, 1, 2 mean 1, 2, 4 bits a dot
-abbrev pub bitsPerDot : ℕ → ℕ
-bitsPerDot grey = 2 ^ grey
 
 -- the dots of a column: [FX], in grey 8 / bits a dot
 unfoldable pub dotsPerColumn : ℕ → Code → ℕ
@@ -28,10 +26,6 @@ perColumn r = dotsPerColumn (r .grey) (r .system .fx)
 -- Width: [C/R] x [FX] dots, in grey [C/R] x 8 / bits a dot
 unfoldable pub width : Registers → ℕ
 width r = ⁅ r .system .cr ⁆ * perColumn r
-
--- a byte gives its top bits, bit 7 leftmost; in grey its 2- or 4-bit groups, top group leftmost
-unfoldable pub dotOf : ℕ → ℕ → ℕ → ℕ
-dotOf bits byte j = byte / 2 ^ (8 - bits * (j + 1)) % 2 ^ bits
 
 -- a layer's byte at column c; a dark block's is 0
 unfoldable pub layerByte : Registers → List ℕ → List ℕ → ℕ → LayerRow → ℕ → ℕ
@@ -55,15 +49,6 @@ shownDot r memory font frame n x = columnDot r memory font frame n (x / perColum
 unfoldable pub dot : Registers → List ℕ → List ℕ → ℕ → ℕ → ℕ → ℕ
 dot r memory font frame n x =
     if r .display .on && not (r .asleep) then shownDot r memory font frame n x else 0
-
--- f i, f (i + 1), .., n of them
-abbrev pub tableFrom : ℕ → ℕ → (ℕ → ℕ) → List ℕ
-tableFrom i zero f = []
-tableFrom i (suc n) f = f i ∷ tableFrom (suc i) n f
-
--- f 0, f 1, .., f (n - 1)
-unfoldable pub table : ℕ → (ℕ → ℕ) → List ℕ
-table n f = tableFrom 0 n f
 
 unfoldable pub dots : Registers → List ℕ → List ℕ → ℕ → ℕ → List ℕ
 dots r memory font frame n = table (width r) (dot r memory font frame n)

@@ -2,7 +2,6 @@ pub mod Layers
 pub mod Glyphs
 pub mod Flashing
 pub mod Cursor
-pub mod Mixing
 pub mod Dots
 pub mod Refusals
 pub mod Rows

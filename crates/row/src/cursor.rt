@@ -14,10 +14,10 @@ ghost use mathlib.Core.Path.{_≡_};
 ghost use lib.ListN.{length, getD};
 ghost use Rattle.choice.specs.Choice.{_=?_};
 ghost use Rattle.registers.specs.Counts.{⁅_⁆};
+ghost use Rattle.dots.specs.Tables.{table};
 ghost use Rattle.row.specs.declared.LayerRow.the-variants.{Block};
 ghost use Rattle.row.specs.Glyphs.{codeAddress};
 ghost use Rattle.row.specs.Cursor.{inShape, hasCursor};
-ghost use Rattle.row.specs.Dots.{table};
 ghost use Rattle.row.specs.Stages.{firstBits, cursorByte};
 
 const FIRST_BITS: [u8; 8] = [0, 128, 192, 224, 240, 248, 252, 254];

@@ -10,8 +10,9 @@ ghost use Prim.Native.Nat.{_+_, _≤_};
 ghost use mathlib.Core.Path.{_≡_};
 ghost use lib.ListN.{length, getD};
 ghost use Rattle.registers.specs.Sizes.{fontSize};
+ghost use Rattle.dots.specs.Tables.{table};
 ghost use Rattle.row.specs.Glyphs.{fetch, glyphByte};
-ghost use Rattle.row.specs.Dots.{table, layerByte};
+ghost use Rattle.row.specs.Dots.{layerByte};
 ghost use Rattle.row.specs.Stages.{lineAddress, Sized};
 
 // The address of row q of a block, or of its text line q.

@@ -1,11 +1,9 @@
 // Rows of dots, from the registers, display memory, a font and a frame number.
 mod cursor;
-mod expanding;
 mod fetching;
 mod flashing;
 mod glyphs;
 mod layers;
-mod mixing;
 mod refusals;
 mod rows;
 

@@ -1,19 +1,19 @@
 // A row of dots.
 use crate::FrameSize;
 use crate::cursor::invert;
-use crate::expanding::expand;
 use crate::fetching::clear;
 use crate::fetching::layer_bytes;
 use crate::layers::layer1;
 use crate::layers::layer2;
 use crate::layers::layer3;
 use crate::layers::three_layers;
-use crate::mixing::mix_bytes;
-use crate::mixing::third_mix;
 use crate::refusals::columns;
 use crate::refusals::columns_width;
 use crate::refusals::dots_per_column;
 use crate::refusals::row_answer;
+use dots::expand;
+use dots::mix_bytes;
+use dots::third_mix;
 use registers::Answer;
 use registers::FONT_SIZE;
 use registers::MEMORY_SIZE;
@@ -23,7 +23,9 @@ ghost use Prim.Native.Nat.{ℕ, _<_, _≤_};
 ghost use mathlib.Core.Path.{_≡_};
 ghost use lib.ListN.{length, getD};
 ghost use Rattle.registers.specs.Counts.{⁅_⁆};
-ghost use Rattle.row.specs.Dots.{bitsPerDot, perColumn, width, dotOf, columnDot, shownDot, table, dots};
+ghost use Rattle.dots.specs.Tables.{table};
+ghost use Rattle.dots.specs.Bytes.{bitsPerDot, dotOf};
+ghost use Rattle.row.specs.Dots.{perColumn, width, columnDot, shownDot, dots};
 ghost use Rattle.row.specs.Rows.{frameSize, rowOutcome, composedOutcome};
 ghost use Rattle.row.specs.Stages.{Sized, Composable};
 

@@ -8,12 +8,14 @@ use Rattle.registers.specs.Cursor.{nextAddress}
 use Rattle.registers.specs.Layout.{field, inLayout}
 use Rattle.registers.specs.Parameters.{begin, store, storeSystem, storeDisplay, storeBlocks, storeForm, storeOverlay, directionOf, withLow, withHigh, allowed, systemAllows, formAllows}
 use Rattle.registers.specs.Sizes.{fontSize}
+use Rattle.dots.specs.Tables.{table}
+use Rattle.dots.specs.Mixing.{firstOf, mix}
+use Rattle.dots.specs.Bytes.{dotOf}
 use Rattle.row.specs.Cursor.{hasCursor, inverted}
-use Rattle.row.specs.Dots.{dotsPerColumn, width, dotOf, layerByte, columnDot, shownDot, dot, table, dots}
+use Rattle.row.specs.Dots.{dotsPerColumn, width, layerByte, columnDot, shownDot, dot, dots}
 use Rattle.row.specs.Flashing.{isOn, flashing, isLit}
 use Rattle.row.specs.Glyphs.{fetch, blockByte}
 use Rattle.row.specs.Layers.{isText, sad, threeLayers, split, halves, layer1, layer2, layer3}
-use Rattle.row.specs.Mixing.{firstOf, mix}
 use Rattle.row.specs.Refusals.{greyMode, oddLines, layerOrder, cursorShape, rowRefusal}
 use Rattle.row.specs.Rows.{rowAnswer}
 use Rattle.model.specs.Bus.{ignored, commandWrite, served, writeMemory, writeParameter, dataWrite}

@@ -13,9 +13,9 @@ use Rattle.registers.specs.declared.Refusal.{Refusal}
 use Rattle.registers.specs.Refusals.{number, reply}
 use Rattle.registers.specs.Layout.{inLayout}
 use Rattle.registers.proofs.Numbers.{number-not-0}
+use Rattle.dots.proofs.Tables.{lt-or-le}
 use Rattle.row.specs.Rows.{RowAnswer, RowOutcome, frameSize, rowAnswer, rowOutcome, composedOutcome}
 use Rattle.row.proofs.Accepting.{other-row, wide-refused}
-use Rattle.row.proofs.Tables.{lt-or-le}
 use Rattle.model.specs.Machine.{Machine}
 use Rattle.lines.specs.Lines.{frameLine, rowLine}
 use Rattle.session.specs.declared.Output.{Output}

@@ -12,11 +12,11 @@ use Rattle.choice.specs.Choice.{_=?_}
 use Rattle.choice.proofs.Cases.{choose}
 use Rattle.registers.specs.Refusals.{Reply}
 use Rattle.registers.specs.Layout.{inLayout}
+use Rattle.dots.proofs.Tables.{length-table}
 use Rattle.row.specs.Dots.{dots}
 use Rattle.row.specs.Refusals.{rowRefusal}
 use Rattle.row.specs.Rows.{RowAnswer, rowAnswer, frameSize}
 use Rattle.row.proofs.Accepting.{accepted-width}
-use Rattle.row.proofs.Tables.{length-table}
 use Rattle.model.specs.Bus.{commandWrite, dataWrite, dataRead, writeMemory, writeParameter, readMemory, readCursor}
 use Rattle.model.specs.Calls.{BusCall, command, write, read, call}
 use Rattle.model.specs.Machine.{Machine, Outcome}

@@ -2,7 +2,7 @@ use native.Mathlib.Omega.{arith}
 use mathlib.Core.Path.{refl}
 use Prim.Native.Nat.{_-_}
 use lib.ListN.{length}
-use Rattle.row.proofs.InPlace.{Replaced, none-replaced, one-more, all-replaced}
+use Rattle.dots.proofs.InPlace.{Replaced, none-replaced, one-more, all-replaced}
 use Rattle.row.proofs.fetching.clear.Statement.{statement}
 use Rattle.row.proofs.fetching.clear.Tie as tie
 

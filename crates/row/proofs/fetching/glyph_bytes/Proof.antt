@@ -2,8 +2,8 @@ use native.Mathlib.Omega.{arith}
 use mathlib.Core.Path.{_∙_, ap}
 use Prim.Native.Nat.{ℕ, _-_}
 use lib.ListN.{length, getD}
+use Rattle.dots.proofs.InPlace.{Replaced, none-replaced, one-more, all-replaced}
 use Rattle.row.specs.Glyphs.{glyphByte}
-use Rattle.row.proofs.InPlace.{Replaced, none-replaced, one-more, all-replaced}
 use Rattle.row.proofs.fetching.glyph_bytes.Statement.{statement}
 use Rattle.row.proofs.fetching.glyph_bytes.Tie as tie
 

@@ -1,8 +1,8 @@
 use native.Mathlib.Omega.{arith}
 use borrow.Author.Needs.{needs}
 use mathlib.Core.Path.{refl, sym, _∙_}
+use Rattle.dots.proofs.Tables.{same-table}
 use Rattle.row.specs.Dots.{layerByte}
-use Rattle.row.proofs.Tables.{same-table}
 use Rattle.row.proofs.BlockBytes.{text-bytes, graphics-bytes, lit-bytes, dark-bytes}
 use Rattle.row.proofs.fetching.layer_bytes.Statement.{statement}
 use Rattle.row.proofs.fetching.layer_bytes.Tie as tie

@@ -4,10 +4,10 @@ use mathlib.Core.Path.{_∙_, ap}
 use Prim.Native.Nat.{ℕ, _+_, _-_}
 use native.Mathlib.Nat.{add-sub-cancel-left}
 use lib.ListN.{length, take, drop}
+use Rattle.dots.proofs.Tables.{part-length}
+use Rattle.dots.proofs.InPlace.{Replaced, none-replaced, one-more, all-replaced}
 use Rattle.row.specs.Glyphs.{fetch}
 use Rattle.row.proofs.Addresses.{fetch-mod, copied}
-use Rattle.row.proofs.Tables.{part-length}
-use Rattle.row.proofs.InPlace.{Replaced, none-replaced, one-more, all-replaced}
 use Rattle.row.proofs.fetching.memory_bytes.Statement.{statement}
 use Rattle.row.proofs.fetching.memory_bytes.Tie as tie
 

@@ -1,8 +1,14 @@
 use native.Mathlib.Omega.{arith}
-use mathlib.Core.Path.{refl}
+use mathlib.Core.Path.{ap}
 use borrow.Author.Needs.{needs}
+use Rattle.registers.specs.declared.Count.{Count}
 use Rattle.row.proofs.refusals.columns.Statement.{statement}
 use Rattle.row.proofs.refusals.columns.Tie as tie
 
+returns : tie.Need-returns
+returns c =
+    let e = ap (λ (k : Count). k .0) (c .before .count .ensures) in
+    (e, omega (arith, e, c .before .before .good))
+
 pub columns-spec : {M : Type 1} → statement M
-columns-spec = tie.close (tie.spec (λ c κs. search needs) (λ c. search needs) (λ c. rw (c .before .count .ensures) (refl, omega (arith, c .before .before .good))))
+columns-spec = tie.close (tie.spec (λ c κs. search needs) (λ c. search needs) returns)

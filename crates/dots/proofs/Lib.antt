@@ -1,0 +1,4 @@
+pub mod Tables
+pub mod InPlace
+pub mod Halves
+pub mod MixedBytes

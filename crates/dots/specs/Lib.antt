@@ -1,0 +1,5 @@
+pub mod Tables
+pub mod Mixing
+pub mod Bytes
+pub mod MixedBytes
+pub mod Expanded

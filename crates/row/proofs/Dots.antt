@@ -123,18 +123,9 @@ module _ (r : Registers) (memory font : List ℕ) (frame n : ℕ) where
       e ∙ ap (λ (k : ℕ). table (k * perColumn r) (expandedDot (bitsPerDot (r .grey)) (perColumn r) line)) q
       ∙ same-table (⁅ r .system .cr ⁆ * perColumn r) _ _ (λ x l. all (x / perColumn r) (x % perColumn r) (div-lt-iff-lt-mul pos .1 l) (mod-lt x pos))
 
--- The whole row: shown, and with D = 0 or asleep
-
-row-when : (r : Registers) (memory font : List ℕ) (frame n : ℕ) {t : Bool} → (r .display .on && not (r .asleep)) ≡ t
+-- the whole row: shown, or with D = 0 or asleep
+pub row-when : (r : Registers) (memory font : List ℕ) (frame n : ℕ) {t : Bool} → (r .display .on && not (r .asleep)) ≡ t
     → table (width r) (λ x. if t then shownDot r memory font frame n x else 0) ≡ dots r memory font frame n
 unfolding dots dot
 row-when r memory font frame n e =
     same-table (width r) _ _ (λ x l. sym (ap (λ (b : Bool). if b then shownDot r memory font frame n x else 0) e))
-
-pub row-shown : (r : Registers) (memory font : List ℕ) (frame n : ℕ) → r .display .on ≡ true → r .asleep ≡ false
-    → table (width r) (shownDot r memory font frame n) ≡ dots r memory font frame n
-row-shown r memory font frame n on awake = row-when r memory font frame n {t = true} (rw (on, awake))
-
-pub row-dark : (r : Registers) (memory font : List ℕ) (frame n : ℕ) → (r .display .on && not (r .asleep)) ≡ false
-    → table (width r) (λ x. 0) ≡ dots r memory font frame n
-row-dark r memory font frame n e = row-when r memory font frame n e

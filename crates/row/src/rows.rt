@@ -20,6 +20,7 @@ use registers::MEMORY_SIZE;
 use registers::Refusal;
 use registers::Registers;
 ghost use Prim.Native.Nat.{ℕ, _<_, _≤_};
+ghost use mathlib.Core.Bool.{not, _&&_};
 ghost use mathlib.Core.Path.{_≡_};
 ghost use lib.ListN.{length, getD};
 ghost use Rattle.registers.specs.Counts.{⁅_⁆};
@@ -84,16 +85,21 @@ fn line_buffer() -> [u8; 256]
     [0; 256]
 }
 
+fn is_shown(on: bool, asleep: bool) -> bool
+    ensures { λ b. ⌜ b ≡ (on && not asleep) ⌝ }
+{
+    if on {
+        return !asleep;
+    }
+    false
+}
+
 // The dots of row n.
 fn draw(r: Registers, memory: &[u8], font: &[u8], frame: u32, n: u16, out: &mut [u8])
     requires { ⌜ (length (now out) ≡ width r) × Sized (now memory) (now font) × Composable r ⌝ }
     ensures { λ _. ⌜ now (out .exit) ≡ dots r (now (memory .entry)) (now (font .entry)) frame n ⌝ }
 {
-    if r.display.on {
-        if r.asleep {
-            clear(out);
-            return;
-        }
+    if is_shown(r.display.on, r.asleep) {
         let mut line = line_buffer();
         let count = columns(r.system.cr);
         paint(r, memory, font, frame, n, &mut line[..count], out);

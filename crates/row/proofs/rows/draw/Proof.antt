@@ -3,7 +3,7 @@ use borrow.Author.Needs.{needs}
 use mathlib.Core.Path.{_≡_, sym, _∙_}
 use lib.ListN.{length, take}
 use lib.Seq.{length-take-le}
-use Rattle.row.proofs.Dots.{row-dark, row-shown}
+use Rattle.row.proofs.Dots.{row-when}
 use Rattle.row.proofs.rows.draw.Statement.{statement}
 use Rattle.row.proofs.rows.draw.Tie as tie
 
@@ -16,8 +16,6 @@ draw-spec =
     tie.close
     (tie.spec
     (λ c κs. search needs)
-    (λ c. search needs)
-    (λ c. c .before .before .clear .ensures ∙ rw (c .before .before .before .before .before .before .before .before .before .pre .0) (row-dark _ _ _ _ _ (rw (c .before .before .before .before .before .if1 .taken, c .before .before .before .before .if2 .taken))))
     (λ c κs. search needs)
     (λ c κs. search needs)
     (λ c. search needs)
@@ -27,7 +25,7 @@ draw-spec =
     let s = k .before .before .before .before .before .before .before in
     (s .pre .1, s .pre .2, size k ∙ k .columns .ensures .0, omega (arith, size k, k .columns .ensures .1), s .pre .0))
     (λ c. search needs)
-    (λ c. c .before .before .before .paint .ensures ∙ row-shown _ _ _ _ _ (c .before .before .before .before .before .before .before .before .before .if1 .taken) (c .before .before .before .before .before .before .before .before .if2 .left))
+    (λ c. let t = c .before .before .before .before .before .before .before .before in c .before .before .before .paint .ensures ∙ row-when _ _ _ _ _ (sym (t .before .is-shown .ensures) ∙ t .if1 .taken))
     (λ c κs. search needs)
     (λ c. search needs)
-    (λ c. c .before .before .clear2 .ensures ∙ rw (c .before .before .before .before .before .before .before .before .pre .0) (row-dark _ _ _ _ _ (rw (c .before .before .before .before .if1 .left)))))
+    (λ c. let t = c .before .before .before .before in c .before .before .clear .ensures ∙ rw (t .before .before .before .before .before .pre .0) (row-when _ _ _ _ _ (sym (t .before .is-shown .ensures) ∙ t .if1 .left))))

@@ -7,10 +7,11 @@ use native.Mathlib.Omega.{arith}
 use lib.Arith.{digits-div, digits-mod}
 use lib.ListN.{length, take, getD, length-append}
 use borrow.Author.Count.{below-none}
+use Rattle.choice.proofs.Below.{below4}
 use Rattle.dots.specs.Tables.{table}
 use Rattle.dots.specs.Bytes.{dotOf}
 use Rattle.dots.specs.Expanded.{halfDot}
-use Rattle.dots.proofs.Tables.{below4, length-table, getD-table, is-table, table-part}
+use Rattle.dots.proofs.Tables.{length-table, getD-table, is-table, table-part}
 
 -- an entry of the table of halves
 half-dot : (halves : List ℕ) (h : ℕ) → halves ≡ table 64 halfDot → h < 16 → (k : ℕ) → k < 4 → getD halves (h * 4 + k) 0 ≡ dotOf 1 (h * 16) k

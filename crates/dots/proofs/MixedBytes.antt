@@ -9,12 +9,11 @@ use lib.Dec.{eqb→eq}
 use lib.Pow.{pow-pos}
 use borrow.Author.Tests.{ne-eqb, le-ltb}
 use Rattle.choice.specs.Choice.{if_then_else_, _=?_}
-use Rattle.choice.proofs.Below.{allBelow, all-below}
+use Rattle.choice.proofs.Below.{allBelow, all-below, below2, below4}
 use Rattle.dots.specs.Mixing.{firstOf, mix}
-use Rattle.dots.specs.Bytes.{dotOf}
+use Rattle.dots.specs.Bytes.{bitsPerDot, dotOf}
 use Rattle.dots.specs.MixedBytes.{firstPairs, firstNibbles, firstByte, mixByte, thirdMix}
 use Rattle.dots.specs.Expanded.{DotsFit}
-use Rattle.dots.proofs.Tables.{below2, below4}
 
 dot-or : (k a b j : ℕ) → dotOf k (bitOr a b) j ≡ bitOr (dotOf k a j) (dotOf k b j)
 unfolding dotOf
@@ -71,7 +70,7 @@ dot-nibbles a b =
 
 -- dot j of the n of a column
 mix-first : (grey n a b j : ℕ) → DotsFit grey n → j < n
-    → dotOf (2 ^ grey) (firstByte grey a b) j ≡ firstOf (dotOf (2 ^ grey) a j) (dotOf (2 ^ grey) b j) 0
+    → dotOf (bitsPerDot grey) (firstByte grey a b) j ≡ firstOf (dotOf (bitsPerDot grey) a j) (dotOf (bitsPerDot grey) b j) 0
 unfolding firstByte
 mix-first zero n a b j h l = dot-or 1 a b j ∙ first-or (dotOf 1 a j) (dotOf 1 b j) (dot-lt 1 a j) (dot-lt 1 b j)
 mix-first (suc zero) n a b j h l = dot-pairs a b j (rw (h .two refl) at l)
@@ -80,12 +79,12 @@ mix-first (suc (suc (suc g))) n a b j h l = absurd (let z = h .code in omega ari
 
 -- two layers mixed, as if the third had no dot
 pub mix-dots : (mx grey n a b j : ℕ) → DotsFit grey n → j < n
-    → dotOf (2 ^ grey) (mixByte mx grey a b) j ≡ mix mx (dotOf (2 ^ grey) a j) (dotOf (2 ^ grey) b j) 0
+    → dotOf (bitsPerDot grey) (mixByte mx grey a b) j ≡ mix mx (dotOf (bitsPerDot grey) a j) (dotOf (bitsPerDot grey) b j) 0
 unfolding mixByte mix
 mix-dots mx grey n a b j h l = go (mx =? 0) (mx =? 1) (mx =? 2)
   where
     k : ℕ
-    k = 2 ^ grey
+    k = bitsPerDot grey
 
     go : (x y z : Bool)
         → dotOf k (if x then bitOr a b else if y then bitXor a b else if z then bitAnd a b else firstByte grey a b) j

@@ -1,29 +1,18 @@
 -- Tables: lists by their elements.
 use Prim.Native.Nat.{ℕ, zero, suc, zero-le, _+_, _-_, _*_, _/_, _%_, _<_, _≤_}
 use mathlib.Core.List.{List, _++_, append-nil}
-use mathlib.Core.Logic.{⊎-elim, _⊎_, inl, inr}
+use mathlib.Core.Logic.{⊎-elim}
 use mathlib.Core.Path.{_≡_, refl, sym, ap, _∙_, subst}
-use native.Mathlib.Decide.{decLt}
-use native.Mathlib.Nat.{add-zero, zero-add, add-suc, suc-add, le-of-suc-le-suc, not-suc-le-zero, lt-of-not-le, add-sub-of-le, zero-mul, suc-mul, mul-le-mul-right, add-sub-cancel-left}
+use native.Mathlib.Nat.{add-zero, zero-add, add-suc, suc-add, le-of-suc-le-suc, not-suc-le-zero, add-sub-of-le, zero-mul, suc-mul, mul-le-mul-right}
 use native.Mathlib.Numerals.{add-one}
 use native.Mathlib.Omega.{arith}
 use lib.Arith.{digits-div, digits-mod}
-use lib.ListN.{length, getD, take, drop, set, length-drop, drop-of-length-le, List·getD-append}
+use lib.ListN.{length, getD, take, drop, set, drop-of-length-le, List·getD-append}
 use lib.Seq.{sets-eq, sets, ext-getD, getD-set-same, getD-set-other, getD-take, getD-append-add, length-take-le}
 use borrow.Author.Count.{below-none, below-more}
+use Rattle.choice.proofs.Cases.{lt-or-le}
+use Rattle.choice.proofs.Parts.{part-length}
 use Rattle.dots.specs.Tables.{table, tableFrom}
-
--- Finite cases
-
-pub below2 : (P : ℕ → Type 0) → P 0 → P 1 → (d : ℕ) → d < 2 → P d
-below2 P p0 p1 zero h = p0
-below2 P p0 p1 (suc zero) h = p1
-below2 P p0 p1 (suc (suc d)) h = absurd (not-suc-le-zero (le-of-suc-le-suc (le-of-suc-le-suc h)))
-
-pub below4 : (P : ℕ → Type 0) → P 0 → P 1 → P 2 → P 3 → (d : ℕ) → d < 4 → P d
-below4 P p0 p1 p2 p3 zero h = p0
-below4 P p0 p1 p2 p3 (suc zero) h = p1
-below4 P p0 p1 p2 p3 (suc (suc d)) h = below2 (λ x. P (suc (suc x))) p2 p3 d (le-of-suc-le-suc (le-of-suc-le-suc h))
 
 -- Elements
 
@@ -64,13 +53,6 @@ all-set vs l e =
     sets-eq vs l 0 (omega (arith, zero-add (length vs)))
     ∙ ap (λ (r : List ℕ). vs ++ r) (drop-of-length-le l {i = 0 + length vs} (omega (arith, zero-add (length vs)))) ∙ append-nil vs
 
-pub lt-or-le : (k a : ℕ) → (k < a) ⊎ (a ≤ k)
-lt-or-le k a = go (decLt k a)
-  where
-    go : Dec (k < a) → (k < a) ⊎ (a ≤ k)
-    go (yes h) = inl h
-    go (no h) = inr (le-of-suc-le-suc (lt-of-not-le h))
-
 -- one store more of a table
 pub table-more : (f : ℕ → ℕ) (l : List ℕ) (i v : ℕ) → i < length l → v ≡ f i → ((k : ℕ) → k < i → getD l k 0 ≡ f k)
     → (k : ℕ) → k < i + 1 → getD (set l i v) k 0 ≡ f k
@@ -98,10 +80,6 @@ table-part f g l ys zs a m n room mn e agree all k lt = ⊎-elim before inside (
         subst (λ (x : ℕ). getD (take a l ++ (ys ++ zs)) x 0 ≡ f x) ej
         (ap (λ (x : ℕ). getD (take a l ++ (ys ++ zs)) (x + j) 0) (sym front) ∙ getD-append-add (take a l) (ys ++ zs) j 0
         ∙ List·getD-append ys zs 0 j jy ∙ ap (λ (z : List ℕ). getD z j 0) e ∙ getD-table n g j jn ∙ agree j jm)
-
--- the length of a part
-pub part-length : (l : List ℕ) (a m : ℕ) → a + m ≤ length l → length (take (a + m - a) (drop a l)) ≡ m
-part-length l a m h = rw add-sub-cancel-left (length-take-le m (drop a l) (rw length-drop (omega arith)))
 
 -- Columns of p elements
 

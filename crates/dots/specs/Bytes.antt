@@ -1,4 +1,4 @@
--- Reference, 'Rows' and 'Width'; 01, 'Blocks and layers of a row': the dots of a byte.
+-- Reference, 'Blocks and layers'; 01, 'Blocks and layers of a row': the dots of a byte.
 use Prim.Native.Nat.{ℕ, _+_, _-_, _*_, _/_, _%_, _^_}
 
 -- GRAY SCALE 0, 1, 2 mean 1, 2, 4 bits a dot

@@ -1,4 +1,5 @@
--- Whole bytes mixed. Laws in proofs/ give their dots.
+-- Reference, 'Mixing'; 01, 'Blocks and layers of a row': whole bytes mixed. Each dot of them is the `mix` of the layers' dots: `mix-dots` and
+-- `mix-steps` in proofs/MixedBytes.
 use Prim.Native.Nat.{ℕ, _+_, _*_, _/_, _%_}
 use lib.Bits.{bitAnd, bitOr, bitXor}
 use Rattle.choice.specs.Choice.{if_then_else_, _<?_, _=?_}

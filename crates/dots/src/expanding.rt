@@ -1,9 +1,9 @@
 // Stage 4 of a row: bytes expanded to dots, one byte a dot.
-ghost use Prim.Native.Nat.{_*_, _≤_, _<_, _^_};
+ghost use Prim.Native.Nat.{_*_, _≤_, _<_};
 ghost use mathlib.Core.Path.{_≡_};
 ghost use lib.ListN.{length};
 ghost use Rattle.dots.specs.Tables.{table};
-ghost use Rattle.dots.specs.Bytes.{dotOf};
+ghost use Rattle.dots.specs.Bytes.{bitsPerDot, dotOf};
 ghost use Rattle.dots.specs.Expanded.{halfDot, expandedDot, DotsFit};
 
 // The first dots of a byte at one bit a dot.
@@ -139,7 +139,7 @@ fn spread_nibbles(b: u8, out: &mut [u8])
 // The dots of a byte in grey.
 fn spread_groups(grey: u8, b: u8, out: &mut [u8])
     requires { ⌜ (0 < grey) × DotsFit grey (length (now out)) ⌝ }
-    ensures { λ _. ⌜ now (out .exit) ≡ table (length (now (out .entry))) (dotOf (2 ^ grey) b) ⌝ }
+    ensures { λ _. ⌜ now (out .exit) ≡ table (length (now (out .entry))) (dotOf (bitsPerDot grey) b) ⌝ }
 {
     if grey == 1 {
         spread_pairs(b, out);
@@ -151,7 +151,7 @@ fn spread_groups(grey: u8, b: u8, out: &mut [u8])
 // The dots of all columns in grey. The callers' numbers make it a loop of its own for each code.
 fn expand_groups(grey: u8, per: usize, line: &[u8], out: &mut [u8])
     requires { ⌜ (0 < grey) × DotsFit grey per × (length (now out) ≡ length (now line) * per) ⌝ }
-    ensures { λ _. ⌜ now (out .exit) ≡ table (length (now (line .entry)) * per) (expandedDot (2 ^ grey) per (now (line .entry))) ⌝ }
+    ensures { λ _. ⌜ now (out .exit) ≡ table (length (now (line .entry)) * per) (expandedDot (bitsPerDot grey) per (now (line .entry))) ⌝ }
 {
     let mut c: usize = 0;
     let mut at: usize = 0;
@@ -164,7 +164,7 @@ fn expand_groups(grey: u8, per: usize, line: &[u8], out: &mut [u8])
 }
 
 // The dots of all columns at one bit a dot. Where there is room for it a byte gives all its eight dots, and the next column's go over
-// those past [FX].
+// those past its own.
 fn expand_bits(per: usize, line: &[u8], out: &mut [u8])
     requires { ⌜ (per ≤ 8) × (length (now out) ≡ length (now line) * per) ⌝ }
     ensures { λ _. ⌜ now (out .exit) ≡ table (length (now (line .entry)) * per) (expandedDot 1 per (now (line .entry))) ⌝ }
@@ -188,7 +188,7 @@ fn expand_bits(per: usize, line: &[u8], out: &mut [u8])
 // The dots of all columns.
 pub fn expand(grey: u8, per: usize, line: &[u8], out: &mut [u8])
     requires { ⌜ DotsFit grey per × (length (now out) ≡ length (now line) * per) ⌝ }
-    ensures { λ _. ⌜ now (out .exit) ≡ table (length (now (line .entry)) * per) (expandedDot (2 ^ grey) per (now (line .entry))) ⌝ }
+    ensures { λ _. ⌜ now (out .exit) ≡ table (length (now (line .entry)) * per) (expandedDot (bitsPerDot grey) per (now (line .entry))) ⌝ }
 {
     if grey == 0 {
         expand_bits(per, line, out);

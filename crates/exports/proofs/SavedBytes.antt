@@ -1,13 +1,12 @@
 -- Saved controllers: laws on their bytes, and that reading undoes saving.
 use Prim.Native.Nat.{ℕ, _+_, _*_}
 use mathlib.Core.Bool.{Bool, true, false, _&&_}
-use mathlib.Core.List.{List, _++_, append-nil}
-use mathlib.Core.Path.{_≡_, refl, _∙_}
+use mathlib.Core.List.{List}
+use mathlib.Core.Path.{_≡_, refl}
 use native.Mathlib.Omega.{arith}
 use borrow.Author.Tests.{eqb-true}
 use mir.Val.{boolByte}
-use lib.ListN.{length, getD, take, drop, drop-of-length-le}
-use lib.Seq.{take-length}
+use lib.ListN.{length, getD}
 use Rattle.choice.specs.Choice.{_=?_}
 use Rattle.registers.proofs.Codes.{of-code}
 use Rattle.registers.specs.declared.Direction.{Direction}
@@ -28,10 +27,6 @@ saved-length s e = eqb-true _ _ (first (length s =? 48) (getD s 0 0 =? 1) e)
     first : (a b : Bool) → (a && b) ≡ true → a ≡ true
     first true b e = refl
     first false b e = e
-
--- bytes copied over as many others
-pub copied : (src dst : List ℕ) {out : List ℕ} → length src ≡ length dst → out ≡ take (length src) src ++ drop (length src) dst → out ≡ src
-copied src dst e o = o ∙ rw (take-length, drop-of-length-le dst {i = length src} (omega arith), append-nil)
 
 flag-read : (b : Bool) → (flag b =? 1) ≡ b
 flag-read true = refl

@@ -1,13 +1,14 @@
 -- Bytes stored a stride apart: one more, none, and those that stand one behind the other.
 use Prim.Native.Nat.{ℕ, zero, suc, _+_, _-_, _%_, _<_, _≤_, min}
-use mathlib.Core.List.{List, [], _∷_, _++_, append-assoc, append-nil}
-use mathlib.Core.Path.{_≡_, refl, _∙_}
+use mathlib.Core.List.{List, [], _∷_, _++_, append-assoc}
+use mathlib.Core.Path.{_≡_, refl, sym, _∙_}
 use native.Mathlib.Nat.{add-zero, add-sub-cancel-left}
 use native.Mathlib.Numerals.{add-one}
 use native.Mathlib.Omega.{arith}
-use lib.ListN.{length, getD, set, take, drop, length-set, length-take, length-drop, drop-of-length-le}
-use lib.Seq.{drop-cons, take-length, drop-drop, sets, sets-eq}
+use lib.ListN.{length, getD, set, take, drop, length-set}
+use lib.Seq.{drop-cons, drop-drop, sets, sets-eq}
 use borrow.Author.Tests.{lt-ltb, le-ltb}
+use Rattle.choice.proofs.Parts.{copied, part-length}
 use Rattle.registers.specs.Sizes.{memorySize}
 use Rattle.model.specs.Strides.{outcome, storedFrom}
 
@@ -39,7 +40,7 @@ adjacent done address (suc n) memory (b ∷ bs) full e =
     further x = omega arith
 
 -- a part put back, with a copy over it
-pub copied : (l bs : List ℕ) {part : List ℕ} (at n : ℕ) → length bs ≡ n → at + n ≤ length l → part ≡ take (length bs) bs ++ drop (length bs) (take (at + n - at) (drop at l))
+pub put-back : (l bs : List ℕ) {part : List ℕ} (at n : ℕ) → length bs ≡ n → at + n ≤ length l → part ≡ take (length bs) bs ++ drop (length bs) (take (at + n - at) (drop at l))
     → take at l ++ (part ++ drop (at + n - at) (drop at l)) ≡ sets l at bs
-copied l bs at n e h p =
-    rw (p, take-length, add-sub-cancel-left, drop-of-length-le (take n (drop at l)) {i = length bs} (rw (length-take, length-drop) (omega arith)), append-nil, drop-drop, sets-eq bs l at (omega arith), append-assoc, e)
+put-back l bs at n e h p =
+    rw (p, copied bs _ (part-length l at n h ∙ sym e), add-sub-cancel-left, drop-drop, sets-eq bs l at (omega arith), append-assoc, e)

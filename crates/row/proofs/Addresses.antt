@@ -1,12 +1,13 @@
 -- Addresses modulo 65,536, and what is fetched there.
 use Prim.Native.Nat.{ℕ, _+_, _*_, _%_, _^_, _<_, _≤_}
-use mathlib.Core.List.{List, _++_, append-nil}
+use mathlib.Core.List.{List, _++_}
 use mathlib.Core.Path.{_≡_, sym, ap, _∙_}
 use native.Mathlib.Nat.{mul-le-mul-left, mul-lt-mul-of-pos-right, lt-of-le-of-lt, le-of-lt, mod-eq-of-lt}
 use native.Mathlib.Omega.{arith}
-use lib.ListN.{length, getD, take, drop, length-drop, drop-of-length-le}
-use lib.Seq.{take-length, getD-take, getD-drop, length-take-le}
+use lib.ListN.{length, getD, take, drop, length-drop}
+use lib.Seq.{getD-take, getD-drop, length-take-le}
 use lib.Pow.{pow-pos}
+use Rattle.choice.proofs.Parts.{copied}
 use Rattle.dots.specs.Tables.{table}
 use Rattle.dots.proofs.Tables.{is-table}
 use Rattle.row.specs.Glyphs.{fetch}
@@ -24,12 +25,11 @@ pub product : {a b : ℕ} → a < 2 ^ 16 → b < 2 ^ 16 → a * b < 2 ^ 32
 product {a} {b} ha hb = lt-of-le-of-lt (mul-le-mul-left a (le-of-lt hb)) (mul-lt-mul-of-pos-right ha (pow-pos 16))
 
 -- bytes copied from a part of memory that ends below the last address
-pub copied : (memory line src : List ℕ) (at : ℕ) → at + length line ≤ length memory → length memory ≤ 65536 → src ≡ take (length line) (drop at memory)
+pub bytes-copied : (memory line src : List ℕ) (at : ℕ) → at + length line ≤ length memory → length memory ≤ 65536 → src ≡ take (length line) (drop at memory)
     → take (length src) src ++ drop (length src) line ≡ table (length line) (λ c. fetch memory (at + c))
 unfolding fetch
-copied memory line src at room small e =
-    ap (λ (l : List ℕ). l ++ drop (length src) line) (take-length src)
-    ∙ ap (λ (l : List ℕ). src ++ l) (drop-of-length-le line {i = length src} (omega (arith, len))) ∙ append-nil src
+bytes-copied memory line src at room small e =
+    copied src line (sym len)
     ∙ is-table (length line) _ src len (λ k lt.
     ap (λ (l : List ℕ). getD l k 0) e ∙ getD-take (length line) (drop at memory) k 0 lt ∙ getD-drop at memory k 0
     ∙ ap (λ (x : ℕ). getD memory x 0) (sym (mod-eq-of-lt (below k lt))))

@@ -3,7 +3,7 @@ use Prim.Native.Nat.{ℕ, _+_, _-_, _*_, _/_, _%_, _^_, _<_}
 use mathlib.Core.Bool.{Bool, true, false, not, _&&_}
 use mathlib.Core.List.{List}
 use mathlib.Core.Logic.{⊎-elim}
-use mathlib.Core.Path.{_≡_, refl, sym, ap, _∙_, subst}
+use mathlib.Core.Path.{_≡_, refl, sym, _∙_, subst}
 use native.Mathlib.Nat.{eq-zero-or-pos}
 use native.Mathlib.Omega.{arith}
 use lib.Bits.{bitXor, xor-zero-r}
@@ -14,10 +14,11 @@ use borrow.Author.Tests.{lt-ltb, le-ltb, eq-eqb, ne-eqb, eqb-true, eqb-false}
 use Rattle.registers.specs.declared.Registers.{Registers}
 use Rattle.choice.specs.Choice.{if_then_else_, _<?_, _=?_}
 use Rattle.registers.specs.Counts.{⁅_⁆}
-use Rattle.choice.proofs.Below.{allBelow, all-below}
+use Rattle.choice.proofs.Below.{allBelow, all-below, below2}
+use Rattle.choice.proofs.Cases.{lt-or-le}
 use Rattle.dots.specs.Tables.{table}
 use Rattle.dots.specs.Bytes.{bitsPerDot, dotOf}
-use Rattle.dots.proofs.Tables.{lt-or-le, below2, is-table}
+use Rattle.dots.proofs.Tables.{is-table}
 use Rattle.dots.proofs.MixedBytes.{dot-xor, dot-lt}
 use Rattle.row.specs.declared.LayerRow.{LayerRow}
 use Rattle.row.specs.declared.LayerRow.the-variants.{Nothing, Block}
@@ -82,7 +83,7 @@ cursor-dots r frame layer c a j h low = go (hasCursor r frame layer c) (cursor-o
         → dotOf (bitsPerDot (r .grey)) (if here then bitXor a (firstBits crx) else a) j
         ≡ (if here && j <? crx then 1 - dotOf (bitsPerDot (r .grey)) a j else dotOf (bitsPerDot (r .grey)) a j)
     go true e =
-        subst (λ (g : ℕ). dotOf (2 ^ g) (bitXor a (firstBits crx)) j ≡ (if j <? crx then 1 - dotOf (2 ^ g) a j else dotOf (2 ^ g) a j)) (sym (e refl))
+        subst (λ (g : ℕ). dotOf (bitsPerDot g) (bitXor a (firstBits crx)) j ≡ (if j <? crx then 1 - dotOf (bitsPerDot g) a j else dotOf (bitsPerDot g) a j)) (sym (e refl))
         (rw (dot-xor 1 a (firstBits crx) j, bits-dot crx j (low (e refl))) (xor-bit (j <? crx) (dotOf 1 a j) (dot-lt 1 a j)))
     go false e = refl
 

@@ -22,7 +22,7 @@ use Rattle.row.specs.declared.LayerRow.the-variants.{Nothing}
 use Rattle.row.specs.Layers.{threeLayers, layer1, layer2, layer3}
 use Rattle.row.specs.Cursor.{hasCursor, inverted}
 use Rattle.row.specs.Dots.{dotsPerColumn, perColumn, width, layerByte, columnDot, shownDot, dot, dots}
-use Rattle.row.specs.Stages.{cursorByte, Composable}
+use Rattle.row.specs.Stages.{cursorByte, ColumnDots, Composable}
 use Rattle.row.proofs.CursorBytes.{cursor-dots}
 
 pub columns-fit : (r : Registers) → Composable r → (0 < perColumn r) × DotsFit (r .grey) (perColumn r)
@@ -31,13 +31,13 @@ columns-fit r h = (
   go (r .grey) (h .code),
   record {
     code = h .code;
-    one = λ e. subst (λ (g : ℕ). (if g =? 0 then ⁅ r .system .fx ⁆ else 8 / 2 ^ g) ≤ 8) (sym e) (h .narrow);
-    two = λ e. ap (λ (g : ℕ). if g =? 0 then ⁅ r .system .fx ⁆ else 8 / 2 ^ g) e;
-    four = λ e. ap (λ (g : ℕ). if g =? 0 then ⁅ r .system .fx ⁆ else 8 / 2 ^ g) e;
+    one = λ e. subst (λ (g : ℕ). (if g =? 0 then ⁅ r .system .fx ⁆ else 8 / bitsPerDot g) ≤ 8) (sym e) (h .narrow);
+    two = λ e. ap (λ (g : ℕ). if g =? 0 then ⁅ r .system .fx ⁆ else 8 / bitsPerDot g) e;
+    four = λ e. ap (λ (g : ℕ). if g =? 0 then ⁅ r .system .fx ⁆ else 8 / bitsPerDot g) e;
   },
 )
   where
-    go : (g : ℕ) → g < 3 → 0 < (if g =? 0 then ⁅ r .system .fx ⁆ else 8 / 2 ^ g)
+    go : (g : ℕ) → g < 3 → 0 < (if g =? 0 then ⁅ r .system .fx ⁆ else 8 / bitsPerDot g)
     go zero l = omega arith
     go (suc zero) l = omega arith
     go (suc (suc zero)) l = omega arith
@@ -57,10 +57,6 @@ unfolding layer3
 no-third r n e = rw e
 
 module _ (r : Registers) (memory font : List ℕ) (frame n : ℕ) where
-  -- a line's dots are those of the columns
-  abbrev pub Columns : List ℕ → Type 0
-  Columns line = (c j : ℕ) → c < ⁅ r .system .cr ⁆ → j < perColumn r → dotOf (bitsPerDot (r .grey)) (getD line c 0) j ≡ columnDot r memory font frame n c j
-
   -- the bytes of a layer
   abbrev bytes : LayerRow → ℕ → ℕ
   bytes layer = layerByte r memory font frame layer
@@ -99,14 +95,14 @@ module _ (r : Registers) (memory font : List ℕ) (frame n : ℕ) where
       (cursor-dots r frame (layer1 r n) c (bytes (layer1 r n) c) j h (λ z. let p = fit .one z in omega arith))
 
   -- without layer 3 that is all
-  pub two-layers : (mixed : List ℕ) → threeLayers (r .system .ws) (r .overlay) ≡ false → TwoDots mixed → Columns mixed
+  pub two-layers : (mixed : List ℕ) → threeLayers (r .system .ws) (r .overlay) ≡ false → TwoDots mixed → ColumnDots r memory font frame n mixed
   unfolding columnDot layerByte
   two-layers mixed none two c j lc lj = two c j lc lj ∙ rw (no-third r n none, dot-zero (bitsPerDot (r .grey)) j)
 
   -- the bytes of layer 3 mixed in
   pub three-layers : (mixed : List ℕ) {all : List ℕ} {m : ℕ} → Composable r → m ≡ ⁅ r .system .cr ⁆
       → TwoDots mixed
-      → all ≡ table m (λ c. mixByte (thirdMix (r .overlay .mx)) (r .grey) (getD mixed c 0) (bytes (layer3 r n) c)) → Columns all
+      → all ≡ table m (λ c. mixByte (thirdMix (r .overlay .mx)) (r .grey) (getD mixed c 0) (bytes (layer3 r n) c)) → ColumnDots r memory font frame n all
   unfolding columnDot
   three-layers mixed h q two e c j lc lj =
       ap (λ (b : ℕ). dotOf (bitsPerDot (r .grey)) b j) (element _ e q c lc)
@@ -115,7 +111,7 @@ module _ (r : Registers) (memory font : List ℕ) (frame n : ℕ) where
       ∙ mix-steps (r .overlay .mx) _ _ _
 
   -- the row that such a line expands to
-  pub expanded : (line : List ℕ) {out : List ℕ} {m : ℕ} → Composable r → m ≡ ⁅ r .system .cr ⁆ → Columns line
+  pub expanded : (line : List ℕ) {out : List ℕ} {m : ℕ} → Composable r → m ≡ ⁅ r .system .cr ⁆ → ColumnDots r memory font frame n line
       → out ≡ table (m * perColumn r) (expandedDot (bitsPerDot (r .grey)) (perColumn r) line) → out ≡ table (width r) (shownDot r memory font frame n)
   unfolding width expandedDot shownDot
   expanded line h q all e =

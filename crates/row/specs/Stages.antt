@@ -11,7 +11,9 @@ use Rattle.registers.specs.Counts.{⁅_⁆}
 use Rattle.registers.specs.Sizes.{memorySize, fontSize}
 use Rattle.row.specs.declared.LayerRow.{LayerRow}
 use Rattle.row.specs.declared.RowChecks.{RowChecks}
+use Rattle.dots.specs.Bytes.{bitsPerDot, dotOf}
 use Rattle.row.specs.Cursor.{hasCursor}
+use Rattle.row.specs.Dots.{perColumn, columnDot}
 
 -- the address of row q of a block, or of its text line q
 abbrev pub lineAddress : ℕ → ℕ → ℕ → ℕ
@@ -24,6 +26,11 @@ firstBits n = if n <? 8 then getD (0 ∷ 128 ∷ 192 ∷ 224 ∷ 240 ∷ 248 ∷
 -- a byte of layer 1 with the cursor's bits inverted
 unfoldable pub cursorByte : Registers → ℕ → LayerRow → ℕ → ℕ → ℕ
 cursorByte r frame layer c byte = if hasCursor r frame layer c then bitXor byte (firstBits ⁅ r .form .crx ⁆) else byte
+
+-- the dots of a line of bytes are those of the columns of row n
+abbrev pub ColumnDots : Registers → List ℕ → List ℕ → ℕ → ℕ → List ℕ → Type 0
+ColumnDots r memory font frame n line =
+    (c j : ℕ) → c < ⁅ r .system .cr ⁆ → j < perColumn r → dotOf (bitsPerDot (r .grey)) (getD line c 0) j ≡ columnDot r memory font frame n c j
 
 -- the first refusal of a row that applies, once memory and font have their sizes
 unfoldable pub firstRefusal : RowChecks → ℕ
@@ -39,11 +46,11 @@ firstRefusal k =
     else if k .«buffer_size» then 17
     else 0
 
--- what the refusals leave: memory and font of their sizes
+-- what refusals 1 and 8 leave: memory and font of their sizes
 abbrev pub Sized : List ℕ → List ℕ → Type 0
 Sized memory font = (length memory ≡ memorySize) × (length font ≡ fontSize)
 
--- and grey with DM = 11 alone, at most 8 dots a column
+-- what the others leave, as far as a stage needs it: at most 8 dots a column, and grey with DM = 11 alone
 pub record Composable (r : Registers) : Type 0 where
   pub code : r .grey < 3
   pub narrow : ⁅ r .system .fx ⁆ ≤ 8

@@ -6,6 +6,7 @@ mod glyphs;
 mod layers;
 mod refusals;
 mod rows;
+mod width;
 
 use registers::Count;
 pub use rows::compose;

@@ -1,6 +1,8 @@
 // Which rows are refused.
 use crate::RowChecks;
 use crate::layers::three_layers;
+use crate::width::columns_width;
+use crate::width::dots_per_column;
 use registers::Answer;
 use registers::Blocks;
 use registers::Code;
@@ -8,41 +10,12 @@ use registers::CursorForm;
 use registers::Overlay;
 use registers::Refusal;
 use registers::Registers;
-ghost use Prim.Native.Nat.{_*_, _<_, _≤_};
+ghost use Prim.Native.Nat.{_<_};
 ghost use mathlib.Core.Path.{_≡_};
 ghost use Rattle.registers.specs.Refusals.{reply};
 ghost use Rattle.registers.specs.Sizes.{memorySize, fontSize};
-ghost use Rattle.registers.specs.Counts.{⁅_⁆};
 ghost use Rattle.row.specs.Stages.{firstRefusal};
-ghost use Rattle.row.specs.Dots.{dotsPerColumn};
 ghost use Rattle.row.specs.Refusals.{greyMode, oddLines, layerOrder, cursorShape, rowRefusal};
-
-pub fn dots_per_column(grey: u8, fx: Code) -> u16
-    requires { ⌜ grey < 3 ⌝ }
-    ensures { λ d. ⌜ d ≡ dotsPerColumn grey fx ⌝ }
-{
-    if grey == 0 {
-        return fx.count().0;
-    }
-    if grey == 1 {
-        return 4;
-    }
-    2
-}
-
-pub fn columns(cr: Code) -> usize
-    ensures { λ n. ⌜ (n ≡ ⁅ cr ⁆) × (n ≤ 256) ⌝ }
-{
-    let count = cr.count();
-    count.0 as usize
-}
-
-// How many dots all columns have.
-pub fn columns_width(cr: Code, per: u16) -> usize
-    ensures { λ w. ⌜ w ≡ ⁅ cr ⁆ * per ⌝ }
-{
-    columns(cr) * per as usize
-}
 
 fn grey_mode(grey: u8, o: Overlay, fx: Code) -> bool
     ensures { λ b. ⌜ b ≡ greyMode grey o fx ⌝ }

@@ -7,10 +7,10 @@ use crate::layers::layer1;
 use crate::layers::layer2;
 use crate::layers::layer3;
 use crate::layers::three_layers;
-use crate::refusals::columns;
-use crate::refusals::columns_width;
-use crate::refusals::dots_per_column;
 use crate::refusals::row_answer;
+use crate::width::columns;
+use crate::width::columns_width;
+use crate::width::dots_per_column;
 use dots::expand;
 use dots::mix_bytes;
 use dots::third_mix;
@@ -19,16 +19,15 @@ use registers::FONT_SIZE;
 use registers::MEMORY_SIZE;
 use registers::Refusal;
 use registers::Registers;
-ghost use Prim.Native.Nat.{ℕ, _<_, _≤_};
+ghost use Prim.Native.Nat.{_≤_};
 ghost use mathlib.Core.Bool.{not, _&&_};
 ghost use mathlib.Core.Path.{_≡_};
-ghost use lib.ListN.{length, getD};
+ghost use lib.ListN.{length};
 ghost use Rattle.registers.specs.Counts.{⁅_⁆};
 ghost use Rattle.dots.specs.Tables.{table};
-ghost use Rattle.dots.specs.Bytes.{bitsPerDot, dotOf};
-ghost use Rattle.row.specs.Dots.{perColumn, width, columnDot, shownDot, dots};
+ghost use Rattle.row.specs.Dots.{width, shownDot, dots};
 ghost use Rattle.row.specs.Rows.{frameSize, rowOutcome, composedOutcome};
-ghost use Rattle.row.specs.Stages.{Sized, Composable};
+ghost use Rattle.row.specs.Stages.{ColumnDots, Sized, Composable};
 
 // The bytes of row n, all layers mixed.
 fn mix_layers(
@@ -42,8 +41,7 @@ fn mix_layers(
 )
     requires { ⌜ Sized (now memory) (now font) × Composable r × (length (now line) ≡ ⁅ r .system .cr ⁆)
         × (length (now line) ≤ 256) × (length (now scratch) ≡ length (now line)) ⌝ }
-    ensures { λ _. ⌜ ((c j : ℕ) → c < ⁅ r .system .cr ⁆ → j < perColumn r → dotOf (bitsPerDot (r .grey)) (getD (now (line .exit)) c 0) j
-        ≡ columnDot r (now (memory .entry)) (now (font .entry)) frame n c j) ⌝ }
+    ensures { λ _. ⌜ ColumnDots r (now (memory .entry)) (now (font .entry)) frame n (now (line .exit)) ⌝ }
 {
     let mx = r.overlay.mx;
     let layer = layer1(r, n);
@@ -57,8 +55,8 @@ fn mix_layers(
     }
 }
 
-// The dots of row n with the display on, by way of a line of its bytes. The row's own buffer holds the bytes of layers 2 and 3 until its
-// dots go there.
+// The dots of row n with the display on, by way of a line of its bytes: fetched, with the cursor, mixed, and expanded. The row's own buffer
+// holds the bytes of layers 2 and 3 until its dots go there.
 fn paint(
     r: Registers,
     memory: &[u8],

@@ -6,6 +6,7 @@ use mathlib.Core.Path.{_≡_, ap, subst, _∙_}
 use native.Mathlib.Omega.{arith}
 use lib.ListN.{length}
 use borrow.Author.Tests.{ne-eqb}
+use Rattle.choice.proofs.Cases.{lt-or-le}
 use Rattle.registers.specs.declared.Answer.{Answer}
 use Rattle.registers.specs.declared.Answer.the-variants.{Refused}
 use Rattle.registers.specs.declared.Count.{Count}
@@ -13,7 +14,6 @@ use Rattle.registers.specs.declared.Refusal.{Refusal}
 use Rattle.registers.specs.Refusals.{number, reply}
 use Rattle.registers.specs.Layout.{inLayout}
 use Rattle.registers.proofs.Numbers.{number-not-0}
-use Rattle.dots.proofs.Tables.{lt-or-le}
 use Rattle.row.specs.Rows.{RowAnswer, RowOutcome, frameSize, rowAnswer, rowOutcome, composedOutcome}
 use Rattle.row.proofs.Accepting.{other-row, wide-refused}
 use Rattle.model.specs.Machine.{Machine}

@@ -5,9 +5,10 @@ use borrow.Author.Needs.{needs}
 use Prim.Native.Nat.{_-_}
 use native.Mathlib.Nat.{le-of-eq}
 use lib.ListN.{length, getD}
+use Rattle.choice.proofs.Parts.{part-length}
 use Rattle.dots.specs.Bytes.{dotOf}
 use Rattle.dots.specs.Expanded.{halfDot, expandedDot}
-use Rattle.dots.proofs.Tables.{length-table, part-length, ColumnsDone, no-columns, next-room, next-length, next-column, all-columns}
+use Rattle.dots.proofs.Tables.{length-table, ColumnsDone, no-columns, next-room, next-length, next-column, all-columns}
 use Rattle.dots.proofs.expanding.expand_bits.Statement.{statement}
 use Rattle.dots.proofs.expanding.expand_bits.Tie as tie
 

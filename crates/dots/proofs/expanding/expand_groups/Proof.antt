@@ -3,14 +3,14 @@ use mathlib.Core.Path.{refl, sym, _∙_, subst}
 use Prim.Native.Nat.{_-_, _^_}
 use native.Mathlib.Nat.{le-of-eq}
 use lib.ListN.{length, getD}
-use Rattle.dots.specs.Bytes.{dotOf}
+use Rattle.dots.specs.Bytes.{bitsPerDot, dotOf}
 use Rattle.dots.specs.Expanded.{expandedDot, DotsFit}
 use Rattle.dots.proofs.Tables.{ColumnsDone, no-columns, next-room, next-length, next-column, all-columns}
 use Rattle.dots.proofs.expanding.expand_groups.Statement.{statement}
 use Rattle.dots.proofs.expanding.expand_groups.Tie as tie
 
 abbrev Inv-loop : tie.InvT-loop
-Inv-loop grey per line out₀ c₀ at₀ out c at = ColumnsDone (λ x. dotOf (2 ^ grey) (getD line x 0)) (length line) per out c at
+Inv-loop grey per line out₀ c₀ at₀ out c at = ColumnsDone (λ x. dotOf (bitsPerDot grey) (getD line x 0)) (length line) per out c at
 
 abbrev μ-loop : tie.MeasureT-loop
 μ-loop grey per line out₀ c₀ at₀ out c at = length line - c

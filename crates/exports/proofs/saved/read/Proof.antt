@@ -1,5 +1,6 @@
+use mathlib.Core.Path.{sym, _∙_}
 use Rattle.exports.specs.Saved.{controllerOf}
-use Rattle.exports.proofs.SavedBytes.{copied}
+use Rattle.choice.proofs.Parts.{copied}
 use borrow.Author.Needs.{needs}
 use Rattle.exports.proofs.saved.read.Statement.{statement}
 use Rattle.exports.proofs.saved.read.Tie as tie
@@ -15,4 +16,4 @@ read-spec =
     (λ c. search needs)
     (λ c κs. search needs)
     (λ c. search needs)
-    (λ c. let p = c .before .before .before .before in let s = p .before .before .before in rw (c .of .ensures, c .before .registers .ensures, copied (s .args .s .now) _ (s .pre) (p .copy .ensures .1))))
+    (λ c. let p = c .before .before .before .before in let s = p .before .before .before in rw (c .of .ensures, c .before .registers .ensures, p .copy .ensures .1 ∙ copied (s .args .s .now) _ (sym (s .pre)))))

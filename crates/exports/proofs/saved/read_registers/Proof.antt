@@ -1,4 +1,5 @@
-use Rattle.exports.proofs.SavedBytes.{copied}
+use mathlib.Core.Path.{sym, _∙_}
+use Rattle.choice.proofs.Parts.{copied}
 use borrow.Author.Needs.{needs}
 use Rattle.exports.proofs.saved.read_registers.Statement.{statement}
 use Rattle.exports.proofs.saved.read_registers.Tie as tie
@@ -10,4 +11,4 @@ read-registers-spec =
     (λ c. search needs)
     (λ c κs. search needs)
     (λ c κs. search needs)
-    (λ c. let p = c .before .before .before in let s = p .before .before .before in rw (c .registers .ensures, copied (s .args .s .now) _ (s .pre) (p .copy .ensures .1))))
+    (λ c. let p = c .before .before .before in let s = p .before .before .before in rw (c .registers .ensures, p .copy .ensures .1 ∙ copied (s .args .s .now) _ (sym (s .pre)))))

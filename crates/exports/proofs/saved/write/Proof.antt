@@ -1,6 +1,6 @@
 use mathlib.Core.Path.{sym, _∙_}
 use Rattle.exports.specs.Saved.{savedBytes}
-use Rattle.exports.proofs.SavedBytes.{copied}
+use Rattle.choice.proofs.Parts.{copied}
 use borrow.Author.Needs.{needs}
 use Rattle.exports.proofs.saved.write.Statement.{statement}
 use Rattle.exports.proofs.saved.write.Tie as tie
@@ -14,4 +14,4 @@ write-spec =
     (λ c. search needs)
     (λ c κs. search needs)
     (λ c. search needs)
-    (λ c. let p = c .before .before in let k = p .before .before .before in let s = k .before .before in copied _ (s .args .out .now) (rw (k .saved .ensures) (sym (s .pre))) (p .copy .ensures .1) ∙ k .saved .ensures))
+    (λ c. let p = c .before .before in let k = p .before .before .before in let s = k .before .before in p .copy .ensures .1 ∙ copied _ (s .args .out .now) (rw (k .saved .ensures) (s .pre)) ∙ k .saved .ensures))

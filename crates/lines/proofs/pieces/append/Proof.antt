@@ -1,25 +1,19 @@
-use Prim.Native.Nat.{ℕ, _+_, _-_, _≤_}
-use mathlib.Core.List.{List, _++_, append-nil}
+use Prim.Native.Nat.{ℕ, _+_, _-_}
+use mathlib.Core.List.{List, _++_}
 use mathlib.Core.Path.{_≡_, _∙_}
 use native.Mathlib.Nat.{add-sub-cancel-left}
 use native.Mathlib.Omega.{arith}
-use lib.ListN.{length, take, drop, length-drop, drop-of-length-le}
-use lib.Seq.{take-length, drop-drop, length-take-le}
+use lib.ListN.{length, take, drop}
+use lib.Seq.{drop-drop}
 use borrow.Author.Needs.{needs}
+use Rattle.choice.proofs.Parts.{copied, part-length}
 use Rattle.lines.proofs.Buffers.{left-out, stands}
 use Rattle.lines.proofs.pieces.append.Statement.{statement}
 use Rattle.lines.proofs.pieces.append.Tie as tie
 
--- what the copy leaves of a part as long as the text
-whole : (text part : List ℕ) → length part ≡ length text → take (length text) text ++ drop (length text) part ≡ text
-whole text part e = rw (take-length, drop-of-length-le part {i = length text} (omega arith), append-nil)
-
 -- a part put back where the text stands in it
 joined : (l text : List ℕ) {ys : List ℕ} (u : ℕ) → ys ≡ text → take u l ++ (ys ++ drop (u + length text - u) (drop u l)) ≡ take u l ++ (text ++ drop (u + length text) l)
 joined l text u e = rw (e, add-sub-cancel-left, drop-drop)
-
-part-length : (l : List ℕ) (u n : ℕ) → u + n ≤ length l → length (take (u + n - u) (drop u l)) ≡ n
-part-length l u n h = rw add-sub-cancel-left (length-take-le n (drop u l) (rw length-drop (omega arith)))
 
 returns : tie.Need-returns
 returns c = let a = c .before .before .before .args in left-out (a .buffer .now) (a .used) (a .text .now) (omega arith)
@@ -34,7 +28,7 @@ returns-3 c =
     let s = stands (a .buffer .now) (a .used) (a .text .now) (omega arith) in
     let part = part-length (a .buffer .now) (a .used) (length (a .text .now)) (omega arith) in (
       s .0,
-      joined (a .buffer .now) (a .text .now) (a .used) (c .before .before .copy .ensures .1 ∙ whole (a .text .now) _ part) ∙ s .1,
+      joined (a .buffer .now) (a .text .now) (a .used) (c .before .before .copy .ensures .1 ∙ copied (a .text .now) _ part) ∙ s .1,
     )
 
 pub append-spec : {M : Type 1} → statement M

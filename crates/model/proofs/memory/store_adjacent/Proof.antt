@@ -4,7 +4,7 @@ use native.Mathlib.Omega.{arith}
 use lib.ListN.{length, take, length-take, length-drop}
 use lib.Seq.{length-take-le}
 use borrow.Author.Needs.{needs}
-use Rattle.model.proofs.Strides.{none-stored, adjacent, copied}
+use Rattle.model.proofs.Strides.{none-stored, adjacent, put-back}
 use Rattle.model.proofs.memory.store_adjacent.Statement.{statement}
 use Rattle.model.proofs.memory.store_adjacent.Tie as tie
 
@@ -18,7 +18,7 @@ returns-2 c =
     let a = s .before .before .before .before .args in
     let n = s .smaller .result in
     let size : length (take n (a .bytes .now)) ≡ n = length-take-le _ _ (omega arith) in
-    rw (copied (a .memory .now) (take n (a .bytes .now)) (a .address) n size (omega arith) (k .copy .ensures .1))
+    rw (put-back (a .memory .now) (take n (a .bytes .now)) (a .address) n size (omega arith) (k .copy .ensures .1))
     (rw zero-add at (adjacent 0 (a .address) n (a .memory .now) (a .bytes .now) (s .before .before .before .before .pre) (s .smaller .ensures)))
 
 pub store-adjacent-spec : {M : Type 1} → statement M

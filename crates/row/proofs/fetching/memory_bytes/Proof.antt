@@ -4,10 +4,10 @@ use mathlib.Core.Path.{_∙_, ap}
 use Prim.Native.Nat.{ℕ, _+_, _-_}
 use native.Mathlib.Nat.{add-sub-cancel-left}
 use lib.ListN.{length, take, drop}
-use Rattle.dots.proofs.Tables.{part-length}
+use Rattle.choice.proofs.Parts.{part-length}
 use Rattle.dots.proofs.InPlace.{Replaced, none-replaced, one-more, all-replaced}
 use Rattle.row.specs.Glyphs.{fetch}
-use Rattle.row.proofs.Addresses.{fetch-mod, copied}
+use Rattle.row.proofs.Addresses.{fetch-mod, bytes-copied}
 use Rattle.row.proofs.fetching.memory_bytes.Statement.{statement}
 use Rattle.row.proofs.fetching.memory_bytes.Tie as tie
 
@@ -22,7 +22,7 @@ returns c =
     let k = c .before .before in
     let t = k .before .before .before in
     let a = t .before .before .before .args in
-    k .copy .ensures .1 ∙ copied (a .memory .now) (a .line .now) _ (a .start) (t .if1 .taken) (t .before .before .before .pre .0)
+    k .copy .ensures .1 ∙ bytes-copied (a .memory .now) (a .line .now) _ (a .start) (t .if1 .taken) (t .before .before .before .pre .0)
     (ap (λ (m : ℕ). take m (drop (a .start) (a .memory .now))) (add-sub-cancel-left (a .start) (length (a .line .now))))
 
 loop-again : tie.Need-loop-again Inv-loop μ-loop

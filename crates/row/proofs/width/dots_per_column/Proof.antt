@@ -3,8 +3,8 @@ use mathlib.Core.Path.{_≡_}
 use Rattle.row.specs.Dots.{dotsPerColumn}
 use native.Mathlib.Omega.{arith}
 use borrow.Author.Needs.{needs}
-use Rattle.row.proofs.refusals.dots_per_column.Statement.{statement}
-use Rattle.row.proofs.refusals.dots_per_column.Tie as tie
+use Rattle.row.proofs.width.dots_per_column.Statement.{statement}
+use Rattle.row.proofs.width.dots_per_column.Tie as tie
 
 pub dots-per-column-spec : {M : Type 1} → statement M
 unfolding dotsPerColumn

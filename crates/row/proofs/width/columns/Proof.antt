@@ -2,8 +2,8 @@ use native.Mathlib.Omega.{arith}
 use mathlib.Core.Path.{ap}
 use borrow.Author.Needs.{needs}
 use Rattle.registers.specs.declared.Count.{Count}
-use Rattle.row.proofs.refusals.columns.Statement.{statement}
-use Rattle.row.proofs.refusals.columns.Tie as tie
+use Rattle.row.proofs.width.columns.Statement.{statement}
+use Rattle.row.proofs.width.columns.Tie as tie
 
 returns : tie.Need-returns
 returns c =

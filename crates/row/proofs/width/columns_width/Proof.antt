@@ -3,8 +3,8 @@ use Rattle.row.proofs.Addresses.{product}
 use native.Mathlib.Nat.{lt-trans}
 use lib.Dec.{lit<}
 use borrow.Author.Needs.{needs}
-use Rattle.row.proofs.refusals.columns_width.Statement.{statement}
-use Rattle.row.proofs.refusals.columns_width.Tie as tie
+use Rattle.row.proofs.width.columns_width.Statement.{statement}
+use Rattle.row.proofs.width.columns_width.Tie as tie
 
 pub columns-width-spec : {M : Type 1} → statement M
 columns-width-spec =

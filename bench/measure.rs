@@ -15,8 +15,8 @@ pub fn print() {
     for round in 0..ROUNDS {
         for (index, setup) in setups.iter().enumerate() {
             let times = rows::measure(setup, round);
-            of_frames[index].add(times.frames, times.one_dot_at_a_time, times.fill);
-            of_bands[index].add(times.band, times.one_dot_at_a_time, times.fill);
+            of_frames[index].add(times.ours_in_frames, times.one_dot_at_a_time, times.fill);
+            of_bands[index].add(times.ours_in_a_band, times.one_dot_at_a_time, times.fill);
         }
         for (samples, record) in of_bytes.iter_mut().zip(&records) {
             let times = bytes::measure(record);

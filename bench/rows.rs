@@ -6,8 +6,8 @@ use exported::{calls, saved};
 
 /// Times in nanoseconds a dot.
 pub struct Times {
-    pub frames: f64,
-    pub band: f64,
+    pub ours_in_frames: f64,
+    pub ours_in_a_band: f64,
     pub one_dot_at_a_time: f64,
     pub fill: f64,
 }
@@ -15,7 +15,8 @@ pub struct Times {
 /// A band is one of so many parts of a frame: a sample of one dot at a time is then too short to be cut in two by other work.
 const BANDS: u32 = 8;
 
-/// So many whole frames of ours are a sample too: a band of ours is over in microseconds, right after other code has run.
+/// So many whole frames of ours are a sample too: a band of ours is over in microseconds, right after other code has run, and the clock itself
+/// is some hundredths of it.
 const FRAMES: u32 = 4;
 
 /// How often a band is filled in a round: filling is over too soon for the clock.
@@ -50,8 +51,8 @@ pub fn measure(setup: &Setup, round: u32) -> Times {
         }
     });
     Times {
-        frames: ours_of_frames / dots(FRAMES * rows),
-        band: ours_of_band / dots(height),
+        ours_in_frames: ours_of_frames / dots(FRAMES * rows),
+        ours_in_a_band: ours_of_band / dots(height),
         one_dot_at_a_time: one_dot_at_a_time / dots(height),
         fill: fill / dots(height) / FILLS as f64,
     }

@@ -24,7 +24,7 @@ fetch-mod memory a = fetch-at memory (a % 65536) a (omega arith)
 pub product : {a b : ℕ} → a < 2 ^ 16 → b < 2 ^ 16 → a * b < 2 ^ 32
 product {a} {b} ha hb = lt-of-le-of-lt (mul-le-mul-left a (le-of-lt hb)) (mul-lt-mul-of-pos-right ha (pow-pos 16))
 
--- bytes copied from a part of memory that ends below the last address
+-- bytes copied from a part of memory
 pub bytes-copied : (memory line src : List ℕ) (at : ℕ) → at + length line ≤ length memory → length memory ≤ 65536 → src ≡ take (length line) (drop at memory)
     → take (length src) src ++ drop (length src) line ≡ table (length line) (λ c. fetch memory (at + c))
 unfolding fetch

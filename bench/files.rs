@@ -38,13 +38,14 @@ pub fn refreshes(setup: &Setup, count: usize, frames: u32) -> Vec<u8> {
     records.bytes
 }
 
-/// Records of 2,000 data bytes from the start of memory, moving right, or down by 16.
+/// Records of 2,000 data bytes, up and down by 16, each from where it does not leave memory.
 pub fn writes(setup: &Setup, count: usize, direction: u8) -> Vec<u8> {
     let mut records = Records::default();
     records.command(SYSTEM_SET, &[0x10, 7, 7, 0, 4, 0, 16, 0]);
     records.command(direction, &[]);
+    let start = if matches!(direction, CSRDIR_LEFT | CSRDIR_UP) { 1_999 * 16 } else { 0 };
     for _ in 0..count {
-        records.word_command(CSRW, 0);
+        records.word_command(CSRW, start);
         records.command(MWRITE, &setup.memory[..2_000]);
     }
     records.bytes

@@ -5,7 +5,7 @@ use crate::files::{refreshes, writes};
 use crate::program::Program;
 use crate::setups::{setups, Setup};
 use crate::timing::median;
-use reference::commands::{CSRDIR_DOWN, CSRDIR_RIGHT};
+use reference::commands::{CSRDIR_DOWN, CSRDIR_LEFT, CSRDIR_RIGHT, CSRDIR_UP};
 use std::path::{Path, PathBuf};
 use std::process::Command;
 
@@ -125,6 +125,8 @@ fn program(program: &Program) -> Result<Vec<Line>, String> {
     let writes_of = |count: usize, direction: u8| writes(graphics, count, direction);
     Ok(vec![
         a_byte("program: writes of 2,000 bytes, right", writes_of(40, CSRDIR_RIGHT), writes_of(10, CSRDIR_RIGHT)),
+        a_byte("program: writes of 2,000 bytes, left", writes_of(40, CSRDIR_LEFT), writes_of(10, CSRDIR_LEFT)),
+        a_byte("program: writes of 2,000 bytes, up", writes_of(40, CSRDIR_UP), writes_of(10, CSRDIR_UP)),
         a_byte("program: writes of 2,000 bytes, down", writes_of(40, CSRDIR_DOWN), writes_of(10, CSRDIR_DOWN)),
         a_byte("program: full refreshes without frames", refreshes(graphics, 4, 0), refreshes(graphics, 1, 0)),
         a_frame(graphics),

@@ -1,4 +1,5 @@
 pub mod Tables
 pub mod InPlace
 pub mod Halves
+pub mod Scrolled
 pub mod MixedBytes

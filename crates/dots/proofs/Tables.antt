@@ -87,7 +87,7 @@ table-part f g l ys zs a m n room mn e agree all k lt = ⊎-elim before inside (
 column-room : {c n : ℕ} (p : ℕ) → c < n → c * p + p ≤ n * p
 column-room {c} {n} p h = subst (λ (x : ℕ). x ≤ n * p) (suc-mul c p) (mul-le-mul-right p h)
 
-column-next : (c p : ℕ) → c * p + p ≡ (c + 1) * p
+pub column-next : (c p : ℕ) → c * p + p ≡ (c + 1) * p
 column-next c p = sym (suc-mul c p) ∙ ap (λ (x : ℕ). x * p) (sym (add-one c))
 
 -- the column of an element, and its place there

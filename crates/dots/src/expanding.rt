@@ -1,4 +1,4 @@
-// Stage 4 of a row: bytes expanded to dots, one byte a dot.
+// Stage 5 of a row: bytes expanded to dots, one byte a dot.
 ghost use Prim.Native.Nat.{_*_, _≤_, _<_};
 ghost use mathlib.Core.Path.{_≡_};
 ghost use lib.ListN.{length};

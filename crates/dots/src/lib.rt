@@ -1,7 +1,8 @@
-// Lines of bytes: mixed, and expanded to dots. It knows no register.
+// Lines of bytes: mixed, scrolled, and expanded to dots. It knows no register.
 mod expanding;
 mod mixing;
+mod scrolling;
 
-pub use expanding::expand;
 pub use mixing::mix_bytes;
 pub use mixing::third_mix;
+pub use scrolling::expand_scrolled;

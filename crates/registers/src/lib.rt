@@ -140,6 +140,7 @@ pub enum Refusal {
     CursorShape,
     RowNumber,
     BufferSize,
+    ScrollMode,
 }
 
 // What a write or a row answers.

@@ -1,12 +1,12 @@
 -- What an accepted row has, and what a row leaves.
 use Prim.Native.Nat.{ℕ, suc, _+_, _<_, _≤_}
-use mathlib.Core.Bool.{Bool, true, false, not, _&&_}
+use mathlib.Core.Bool.{Bool, true, false, not, _&&_, _||_}
 use mathlib.Core.List.{List}
 use mathlib.Core.Path.{_≡_, refl, sym, _∙_, subst}
 use native.Mathlib.Omega.{arith}
 use lib.Dec.{T}
 use lib.ListN.{length}
-use borrow.Author.Tests.{lt-ltb, lt-leb, ltb-true, ltb-false, leb-false, eqb-true, not-false, ne-eqb}
+use borrow.Author.Tests.{lt-ltb, lt-leb, ltb-true, ltb-false, leb-false, eqb-true, eqb-false, not-false, ne-eqb}
 use Rattle.registers.specs.declared.Answer.the-variants.{Accepted, Refused}
 use Rattle.registers.specs.declared.Answer.{Answer}
 use Rattle.registers.specs.declared.Refusal.{Refusal}
@@ -19,7 +19,7 @@ use Rattle.registers.specs.Sizes.{memorySize, fontSize}
 use Rattle.registers.specs.Layout.{field, inLayout}
 use Rattle.registers.proofs.Numbers.{number-not-0}
 use Rattle.row.specs.Dots.{width, dots}
-use Rattle.row.specs.Refusals.{greyMode, oddLines, layerOrder, cursorShape, rowRefusal}
+use Rattle.row.specs.Refusals.{greyMode, scrollMode, oddLines, layerOrder, cursorShape, rowRefusal}
 use Rattle.row.specs.Rows.{composedOutcome, rowAnswer, rowOutcome}
 use Rattle.row.specs.Stages.{Composable}
 
@@ -38,6 +38,20 @@ grey-graphics r e ne = go (r .grey =? 0) (r .overlay .dm2) (r .overlay .dm1) (ne
     go false true false f g = absurd (subst T g tt)
     go false false d1 f g = absurd (subst T g tt)
 
+scrolled-bits : (r : Registers) → scrollMode (r .hdot) (r .grey) (r .system .fx) (r .system .cr) ≡ false → (r .hdot ≡ 0 → ⊥)
+    → (r .grey ≡ 0) × (r .hdot < ⁅ r .system .fx ⁆) × (1 < ⁅ r .system .cr ⁆)
+unfolding scrollMode
+scrolled-bits r e ne = go (r .hdot =? 0) (r .grey =? 0) (⁅ r .system .fx ⁆ ≤? r .hdot) (⁅ r .system .cr ⁆ =? 1) (ne-eqb (r .hdot) 0 ne)
+    (eqb-true (r .grey) 0) (leb-false ⁅ r .system .fx ⁆ (r .hdot)) (λ c. let ne = eqb-false ⁅ r .system .cr ⁆ 1 c in omega arith) e
+  where
+    go : (z g f c : Bool) → z ≡ false → (g ≡ true → r .grey ≡ 0) → (f ≡ false → r .hdot < ⁅ r .system .fx ⁆) → (c ≡ false → 1 < ⁅ r .system .cr ⁆)
+        → (not z && (not g || f || c)) ≡ false → (r .grey ≡ 0) × (r .hdot < ⁅ r .system .fx ⁆) × (1 < ⁅ r .system .cr ⁆)
+    go true g f c h a b d k = absurd (subst T h tt)
+    go false true false false h a b d k = (a refl, b refl, d refl)
+    go false true false true h a b d k = absurd (subst T k tt)
+    go false true true c h a b d k = absurd (subst T k tt)
+    go false false f c h a b d k = absurd (subst T k tt)
+
 -- a grey code as it is read
 pub grey-code : (registers : Registers) → inLayout registers .grey < 3
 unfolding inLayout field
@@ -53,6 +67,7 @@ record Passed (r : Registers) (memoryLength fontLength n bufferLength : ℕ) : T
   font-size : not (fontLength =? fontSize) ≡ false
   grey : greyMode (r .grey) (r .overlay) (r .system .fx) ≡ false
   narrow : (8 <? ⁅ r .system .fx ⁆) ≡ false
+  scrolls : scrollMode (r .hdot) (r .grey) (r .system .fx) (r .system .cr) ≡ false
   fits : (640 <? width r) ≡ false
   even : oddLines (r .system .ws) (r .system .lf) ≡ false
   long : (r .system .tcr .0 <? r .system .cr .0 + 4) ≡ false
@@ -68,7 +83,8 @@ passes r memoryLength fontLength n bufferLength e =
     let p8 = passed (not (fontLength =? fontSize)) 7 _ (p1 .1) in
     let p9 = passed (greyMode (r .grey) (r .overlay) (r .system .fx)) 8 _ (p8 .1) in
     let p10 = passed (8 <? ⁅ r .system .fx ⁆) 9 _ (p9 .1) in
-    let p11 = passed (640 <? width r) 10 _ (p10 .1) in
+    let p18 = passed (scrollMode (r .hdot) (r .grey) (r .system .fx) (r .system .cr)) 17 _ (p10 .1) in
+    let p11 = passed (640 <? width r) 10 _ (p18 .1) in
     let p12 = passed (oddLines (r .system .ws) (r .system .lf)) 11 _ (p11 .1) in
     let p13 = passed (r .system .tcr .0 <? r .system .cr .0 + 4) 12 _ (p12 .1) in
     let p14 = passed (layerOrder (r .system .ws) (r .overlay) (r .blocks)) 13 _ (p13 .1) in
@@ -80,6 +96,7 @@ passes r memoryLength fontLength n bufferLength e =
       font-size = p8 .0;
       grey = p9 .0;
       narrow = p10 .0;
+      scrolls = p18 .0;
       fits = p11 .0;
       even = p12 .0;
       long = p13 .0;
@@ -100,7 +117,12 @@ accepted r code memoryLength fontLength n bufferLength e =
     record {
       below = leb-false ⁅ r .system .lf ⁆ n (p .below);
       whole = eqb-true bufferLength (width r) (not-false (bufferLength =? width r) (p .whole));
-      composable = record { code = code; narrow = ltb-false 8 ⁅ r .system .fx ⁆ (p .narrow); graphics = grey-graphics r (p .grey) };
+      composable = record {
+        code = code;
+        narrow = ltb-false 8 ⁅ r .system .fx ⁆ (p .narrow);
+        graphics = grey-graphics r (p .grey);
+        scrolls = scrolled-bits r (p .scrolls);
+      };
     }
 
 -- an accepted row has at most 640 dots
@@ -112,7 +134,7 @@ pub other-row : (r : Registers) (memoryLength fontLength n k bufferLength : ℕ)
 unfolding rowRefusal
 other-row r memoryLength fontLength n k bufferLength e h =
     let p = passes r memoryLength fontLength n bufferLength e in
-    rw (p .memory-size, p .font-size, p .grey, p .narrow, p .fits, p .even, p .long, p .order, p .cursor, lt-leb ⁅ r .system .lf ⁆ k h, p .whole)
+    rw (p .memory-size, p .font-size, p .grey, p .narrow, p .scrolls, p .fits, p .even, p .long, p .order, p .cursor, lt-leb ⁅ r .system .lf ⁆ k h, p .whole)
 
 -- a row that is too wide is refused whatever its buffer
 pub wide-refused : (r : Registers) (memoryLength fontLength n : ℕ) → 640 < width r

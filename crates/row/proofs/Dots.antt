@@ -21,32 +21,10 @@ use Rattle.row.specs.declared.LayerRow.{LayerRow}
 use Rattle.row.specs.declared.LayerRow.the-variants.{Nothing}
 use Rattle.row.specs.Layers.{threeLayers, layer1, layer2, layer3}
 use Rattle.row.specs.Cursor.{hasCursor, inverted}
-use Rattle.row.specs.Dots.{dotsPerColumn, perColumn, width, layerByte, columnDot, shownDot, dot, dots}
+use Rattle.row.specs.Dots.{dotsPerColumn, perColumn, shownColumns, width, layerByte, columnDot, shownDot, unscrolledDot, dot, dots}
 use Rattle.row.specs.Stages.{cursorByte, ColumnDots, Composable}
+use Rattle.row.proofs.Columns.{columns-fit, scroll-fits, in-unscrolled}
 use Rattle.row.proofs.CursorBytes.{cursor-dots}
-
-pub columns-fit : (r : Registers) → Composable r → (0 < perColumn r) × DotsFit (r .grey) (perColumn r)
-unfolding dotsPerColumn
-columns-fit r h = (
-  go (r .grey) (h .code),
-  record {
-    code = h .code;
-    one = λ e. subst (λ (g : ℕ). (if g =? 0 then ⁅ r .system .fx ⁆ else 8 / bitsPerDot g) ≤ 8) (sym e) (h .narrow);
-    two = λ e. ap (λ (g : ℕ). if g =? 0 then ⁅ r .system .fx ⁆ else 8 / bitsPerDot g) e;
-    four = λ e. ap (λ (g : ℕ). if g =? 0 then ⁅ r .system .fx ⁆ else 8 / bitsPerDot g) e;
-  },
-)
-  where
-    go : (g : ℕ) → g < 3 → 0 < (if g =? 0 then ⁅ r .system .fx ⁆ else 8 / bitsPerDot g)
-    go zero l = omega arith
-    go (suc zero) l = omega arith
-    go (suc (suc zero)) l = omega arith
-    go (suc (suc (suc g))) l = absurd (omega arith)
-
--- a row has room for its bytes
-pub columns-in-row : (r : Registers) → Composable r → ⁅ r .system .cr ⁆ ≤ width r
-unfolding width
-columns-in-row r h = subst (λ (x : ℕ). x ≤ ⁅ r .system .cr ⁆ * perColumn r) (mul-one ⁅ r .system .cr ⁆) (mul-le-mul-left ⁅ r .system .cr ⁆ (columns-fit r h .0))
 
 dot-zero : (k j : ℕ) → dotOf k 0 j ≡ 0
 unfolding dotOf
@@ -86,7 +64,7 @@ module _ (r : Registers) (memory font : List ℕ) (frame n : ℕ) where
       → mixed ≡ table m3 (λ c. mixByte (r .overlay .mx) (r .grey) (getD cursor c 0) (bytes (layer2 r n) c))
       → TwoDots mixed
   two-mixed h q1 q2 q3 e1 e2 e3 c j lc lj =
-      let fit = columns-fit r h .1 in
+      let fit = columns-fit r h .2 in
       ap (λ (b : ℕ). dotOf (bitsPerDot (r .grey)) b j)
       (element _ e3 q3 c lc ∙ ap (λ (x : ℕ). mixByte (r .overlay .mx) (r .grey) x (bytes (layer2 r n) c))
       (element _ e2 q2 c lc ∙ ap (λ (x : ℕ). cursorByte r frame (layer1 r n) c x) (element _ e1 q1 c lc)))
@@ -106,22 +84,25 @@ module _ (r : Registers) (memory font : List ℕ) (frame n : ℕ) where
   unfolding columnDot
   three-layers mixed h q two e c j lc lj =
       ap (λ (b : ℕ). dotOf (bitsPerDot (r .grey)) b j) (element _ e q c lc)
-      ∙ mix-dots (thirdMix (r .overlay .mx)) (r .grey) (perColumn r) _ _ j (columns-fit r h .1) lj
+      ∙ mix-dots (thirdMix (r .overlay .mx)) (r .grey) (perColumn r) _ _ j (columns-fit r h .2) lj
       ∙ ap (λ (d : ℕ). mix (thirdMix (r .overlay .mx)) d (layerDot (layer3 r n) c j) 0) (two c j lc lj)
       ∙ mix-steps (r .overlay .mx) _ _ _
 
-  -- the row that such a line expands to
-  pub expanded : (line : List ℕ) {out : List ℕ} {m : ℕ} → Composable r → m ≡ ⁅ r .system .cr ⁆ → ColumnDots r memory font frame n line
-      → out ≡ table (m * perColumn r) (expandedDot (bitsPerDot (r .grey)) (perColumn r) line) → out ≡ table (width r) (shownDot r memory font frame n)
+  -- the row that such a line expands to, scrolled
+  pub expanded : (line : List ℕ) {out : List ℕ} {m : ℕ} → Composable r → m ≡ shownColumns (r .hdot) (r .system .cr) → ColumnDots r memory font frame n line
+      → out ≡ table (m * perColumn r) (λ x. expandedDot (bitsPerDot (r .grey)) (perColumn r) line (x + r .hdot))
+      → out ≡ table (width r) (λ x. shownDot r memory font frame n (x + r .hdot))
   unfolding width expandedDot shownDot
   expanded line h q all e =
+      let p = perColumn r in
       let pos = columns-fit r h .0 in
-      e ∙ ap (λ (k : ℕ). table (k * perColumn r) (expandedDot (bitsPerDot (r .grey)) (perColumn r) line)) q
-      ∙ same-table (⁅ r .system .cr ⁆ * perColumn r) _ _ (λ x l. all (x / perColumn r) (x % perColumn r) (div-lt-iff-lt-mul pos .1 l) (mod-lt x pos))
+      e ∙ ap (λ (k : ℕ). table (k * p) (λ x. expandedDot (bitsPerDot (r .grey)) p line (x + r .hdot))) q
+      ∙ same-table (shownColumns (r .hdot) (r .system .cr) * p) _ _
+      (λ x l. all ((x + r .hdot) / p) ((x + r .hdot) % p) (div-lt-iff-lt-mul pos .1 (in-unscrolled (r .hdot) (r .system .cr) p x (scroll-fits r h .0) l)) (mod-lt (x + r .hdot) pos))
 
 -- the whole row: shown, or with D = 0 or asleep
 pub row-when : (r : Registers) (memory font : List ℕ) (frame n : ℕ) {t : Bool} → (r .display .on && not (r .asleep)) ≡ t
-    → table (width r) (λ x. if t then shownDot r memory font frame n x else 0) ≡ dots r memory font frame n
-unfolding dots dot
+    → table (width r) (λ x. if t then shownDot r memory font frame n (x + r .hdot) else 0) ≡ dots r memory font frame n
+unfolding dots dot unscrolledDot
 row-when r memory font frame n e =
-    same-table (width r) _ _ (λ x l. sym (ap (λ (b : Bool). if b then shownDot r memory font frame n x else 0) e))
+    same-table (width r) _ _ (λ x l. sym (ap (λ (b : Bool). if b then shownDot r memory font frame n (x + r .hdot) else 0) e))

@@ -2,5 +2,6 @@ pub mod Addresses
 pub mod FontIndex
 pub mod BlockBytes
 pub mod CursorBytes
+pub mod Columns
 pub mod Dots
 pub mod Accepting

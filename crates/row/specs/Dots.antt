@@ -1,5 +1,5 @@
--- Reference, 'Rows' and 'Width'; 01, 'Blocks and layers of a row': the dots of a row.
-use Prim.Native.Nat.{ℕ, _*_, _/_, _%_}
+-- Reference, 'Rows', 'Width' and 'Scrolling'; 01, 'Blocks and layers of a row', and request #101: the dots of a row.
+use Prim.Native.Nat.{ℕ, _+_, _-_, _*_, _/_, _%_}
 use mathlib.Core.Bool.{not, _&&_}
 use mathlib.Core.List.{List}
 use Rattle.registers.specs.declared.Code.{Code}
@@ -23,9 +23,13 @@ dotsPerColumn grey fx = if grey =? 0 then ⁅ fx ⁆ else 8 / bitsPerDot grey
 abbrev pub perColumn : Registers → ℕ
 perColumn r = dotsPerColumn (r .grey) (r .system .fx)
 
--- Width: [C/R] x [FX] dots, in grey [C/R] x 8 / bits a dot
+-- #101: how many columns wide a row is
+unfoldable pub shownColumns : ℕ → Code → ℕ
+shownColumns hdot cr = if hdot =? 0 then ⁅ cr ⁆ else ⁅ cr ⁆ - 1
+
+-- Width: [C/R] x [FX] dots, in grey [C/R] x 8 / bits a dot; #101: scrolled, ([C/R] - 1) x [FX]
 unfoldable pub width : Registers → ℕ
-width r = ⁅ r .system .cr ⁆ * perColumn r
+width r = shownColumns (r .hdot) (r .system .cr) * perColumn r
 
 -- a layer's byte at column c; a dark block's is 0
 unfoldable pub layerByte : Registers → List ℕ → List ℕ → ℕ → LayerRow → ℕ → ℕ
@@ -41,14 +45,18 @@ columnDot r memory font frame n c j =
     (layerDot (layer2 r n))
     (layerDot (layer3 r n))
 
--- dot x of row n with the display on
+-- dot x of row n as 01 composes it without scrolling, with the display on
 unfoldable pub shownDot : Registers → List ℕ → List ℕ → ℕ → ℕ → ℕ → ℕ
 shownDot r memory font frame n x = columnDot r memory font frame n (x / perColumn r) (x % perColumn r)
 
 -- with D = 0 or asleep, all dots are 0
-unfoldable pub dot : Registers → List ℕ → List ℕ → ℕ → ℕ → ℕ → ℕ
-dot r memory font frame n x =
+unfoldable pub unscrolledDot : Registers → List ℕ → List ℕ → ℕ → ℕ → ℕ → ℕ
+unscrolledDot r memory font frame n x =
     if r .display .on && not (r .asleep) then shownDot r memory font frame n x else 0
+
+-- #101: scrolled by HDOT SCR's value, dot x is dot x + HDOT SCR of that row
+unfoldable pub dot : Registers → List ℕ → List ℕ → ℕ → ℕ → ℕ → ℕ
+dot r memory font frame n x = unscrolledDot r memory font frame n (x + r .hdot)
 
 unfoldable pub dots : Registers → List ℕ → List ℕ → ℕ → ℕ → List ℕ
 dots r memory font frame n = table (width r) (dot r memory font frame n)

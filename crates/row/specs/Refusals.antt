@@ -1,4 +1,4 @@
--- Reference, 'Refusals'; 01, 'Refusal numbers': a row tests 1, then 8 to 17 in number order.
+-- Reference, 'Refusals'; 01, 'Refusal numbers', and request #101: a row tests 1, then 8 to 17 in number order, with 18 after 10.
 use Prim.Native.Nat.{ℕ, _+_, _%_}
 use mathlib.Core.Bool.{Bool, not, _&&_, _||_}
 use Rattle.registers.specs.declared.Code.{Code}
@@ -15,6 +15,10 @@ use Rattle.row.specs.Dots.{width}
 -- 9: grey set and (DM not 11 or [FX] not 8)
 unfoldable pub greyMode : ℕ → Overlay → Code → Bool
 greyMode grey o fx = not (grey =? 0) && not (dm11 o && ⁅ fx ⁆ =? 8)
+
+-- 18: HDOT SCR not 0, and (grey set, HDOT SCR at least [FX], or [C/R] 1)
+unfoldable pub scrollMode : ℕ → ℕ → Code → Code → Bool
+scrollMode hdot grey fx cr = not (hdot =? 0) && (not (grey =? 0) || ⁅ fx ⁆ ≤? hdot || ⁅ cr ⁆ =? 1)
 
 -- 12: W/S = 1 and [L/F] odd
 unfoldable pub oddLines : Bool → Code → Bool
@@ -36,6 +40,7 @@ rowRefusal r memoryLength fontLength n bufferLength =
     else if not (fontLength =? fontSize) then 8
     else if greyMode (r .grey) (r .overlay) (s .fx) then 9
     else if 8 <? ⁅ s .fx ⁆ then 10
+    else if scrollMode (r .hdot) (r .grey) (s .fx) (s .cr) then 18
     else if 640 <? width r then 11
     else if oddLines (s .ws) (s .lf) then 12
     else if s .tcr .0 <? s .cr .0 + 4 then 13

@@ -37,6 +37,7 @@ unfoldable pub firstRefusal : RowChecks → ℕ
 firstRefusal k =
     if k .«grey_mode» then 9
     else if k .«character_width» then 10
+    else if k .«scroll_mode» then 18
     else if k .«row_width» then 11
     else if k .«odd_lines» then 12
     else if k .«short_line» then 13
@@ -50,8 +51,10 @@ firstRefusal k =
 abbrev pub Sized : List ℕ → List ℕ → Type 0
 Sized memory font = (length memory ≡ memorySize) × (length font ≡ fontSize)
 
--- what the others leave, as far as a stage needs it: at most 8 dots a column, and grey with DM = 11 alone
+-- what the others leave, as far as a stage needs it: at most 8 dots a column, grey with DM = 11 alone, and scrolling at one bit a dot
+-- by less than a column of two or more
 pub record Composable (r : Registers) : Type 0 where
   pub code : r .grey < 3
   pub narrow : ⁅ r .system .fx ⁆ ≤ 8
   pub graphics : (r .grey ≡ 0 → ⊥) → (r .overlay .dm1 ≡ true) × (r .overlay .dm2 ≡ true)
+  pub scrolls : (r .hdot ≡ 0 → ⊥) → (r .grey ≡ 0) × (r .hdot < ⁅ r .system .fx ⁆) × (1 < ⁅ r .system .cr ⁆)

@@ -35,6 +35,7 @@ pub struct FrameSize {
 pub(crate) struct RowChecks {
     pub grey_mode: bool,
     pub character_width: bool,
+    pub scroll_mode: bool,
     pub row_width: bool,
     pub odd_lines: bool,
     pub short_line: bool,

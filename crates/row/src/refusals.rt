@@ -1,8 +1,8 @@
 // Which rows are refused.
 use crate::RowChecks;
 use crate::layers::three_layers;
-use crate::width::columns_width;
 use crate::width::dots_per_column;
+use crate::width::row_width;
 use registers::Answer;
 use registers::Blocks;
 use registers::Code;
@@ -15,7 +15,7 @@ ghost use mathlib.Core.Path.{_≡_};
 ghost use Rattle.registers.specs.Refusals.{reply};
 ghost use Rattle.registers.specs.Sizes.{memorySize, fontSize};
 ghost use Rattle.row.specs.Stages.{firstRefusal};
-ghost use Rattle.row.specs.Refusals.{greyMode, oddLines, layerOrder, cursorShape, rowRefusal};
+ghost use Rattle.row.specs.Refusals.{greyMode, scrollMode, oddLines, layerOrder, cursorShape, rowRefusal};
 
 fn grey_mode(grey: u8, o: Overlay, fx: Code) -> bool
     ensures { λ b. ⌜ b ≡ greyMode grey o fx ⌝ }
@@ -27,6 +27,21 @@ fn grey_mode(grey: u8, o: Overlay, fx: Code) -> bool
         if o.dm1 {
             return fx.count().0 != 8;
         }
+    }
+    true
+}
+
+fn scroll_mode(hdot: u8, grey: u8, fx: Code, cr: Code) -> bool
+    ensures { λ b. ⌜ b ≡ scrollMode hdot grey fx cr ⌝ }
+{
+    if hdot == 0 {
+        return false;
+    }
+    if grey == 0 {
+        if fx.count().0 <= hdot as u16 {
+            return true;
+        }
+        return cr.count().0 == 1;
     }
     true
 }
@@ -81,6 +96,9 @@ impl RowChecks {
         if self.character_width {
             return Answer::Refused(Refusal::CharacterWidth);
         }
+        if self.scroll_mode {
+            return Answer::Refused(Refusal::ScrollMode);
+        }
         if self.row_width {
             return Answer::Refused(Refusal::RowWidth);
         }
@@ -113,10 +131,11 @@ pub fn row_answer(r: Registers, n: u32, buffer_length: usize) -> Answer
     ensures { λ a. ⌜ (reply a .refusal ≡ 0 → n < 65536) ⌝ }
 {
     let s = r.system;
-    let width = columns_width(s.cr, dots_per_column(r.grey, s.fx));
+    let width = row_width(r.hdot, s.cr, dots_per_column(r.grey, s.fx));
     let checks = RowChecks {
         grey_mode: grey_mode(r.grey, r.overlay, s.fx),
         character_width: 8 < s.fx.count().0,
+        scroll_mode: scroll_mode(r.hdot, r.grey, s.fx, s.cr),
         row_width: 640 < width,
         odd_lines: odd_lines(s.ws, s.lf),
         short_line: (s.tcr.0 as u16) < s.cr.0 as u16 + 4,

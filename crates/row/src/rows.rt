@@ -9,9 +9,10 @@ use crate::layers::layer3;
 use crate::layers::three_layers;
 use crate::refusals::row_answer;
 use crate::width::columns;
-use crate::width::columns_width;
 use crate::width::dots_per_column;
-use dots::expand;
+use crate::width::row_width;
+use crate::width::shown_columns;
+use dots::expand_scrolled;
 use dots::mix_bytes;
 use dots::third_mix;
 use registers::Answer;
@@ -19,7 +20,7 @@ use registers::FONT_SIZE;
 use registers::MEMORY_SIZE;
 use registers::Refusal;
 use registers::Registers;
-ghost use Prim.Native.Nat.{_≤_};
+ghost use Prim.Native.Nat.{_+_, _≤_};
 ghost use mathlib.Core.Bool.{not, _&&_};
 ghost use mathlib.Core.Path.{_≡_};
 ghost use lib.ListN.{length};
@@ -55,7 +56,7 @@ fn mix_layers(
     }
 }
 
-// The dots of row n with the display on, by way of a line of its bytes: fetched, with the cursor, mixed, and expanded. The row's own buffer
+// The dots of row n with the display on, by way of a line of its bytes: fetched, with the cursor, mixed, scrolled, and expanded. The row's own buffer
 // holds the bytes of layers 2 and 3 until its dots go there.
 fn paint(
     r: Registers,
@@ -68,12 +69,13 @@ fn paint(
 )
     requires { ⌜ Sized (now memory) (now font) × Composable r × (length (now line) ≡ ⁅ r .system .cr ⁆)
         × (length (now line) ≤ 256) × (length (now out) ≡ width r) ⌝ }
-    ensures { λ _. ⌜ now (out .exit) ≡ table (width r) (shownDot r (now (memory .entry)) (now (font .entry)) frame n) ⌝ }
+    ensures { λ _. ⌜ now (out .exit) ≡ table (width r) (λ x. shownDot r (now (memory .entry)) (now (font .entry)) frame n (x + r .hdot)) ⌝ }
 {
     let count = line.len();
     mix_layers(r, memory, font, frame, n, line, &mut out[..count]);
     let per = dots_per_column(r.grey, r.system.fx) as usize;
-    expand(r.grey, per, line, out);
+    let shown = shown_columns(r.hdot, r.system.cr);
+    expand_scrolled(r.grey, per, r.hdot as usize, shown, line, out);
 }
 
 // Room for the bytes of a row.
@@ -113,7 +115,7 @@ pub fn frame_size(registers: Registers) -> FrameSize
     let r = registers.in_layout();
     let s = r.system;
     FrameSize {
-        width: columns_width(s.cr, dots_per_column(r.grey, s.fx)),
+        width: row_width(r.hdot, s.cr, dots_per_column(r.grey, s.fx)),
         rows: s.lf.count(),
     }
 }

@@ -3,7 +3,7 @@ use registers::Code;
 ghost use Prim.Native.Nat.{_*_, _<_, _≤_};
 ghost use mathlib.Core.Path.{_≡_};
 ghost use Rattle.registers.specs.Counts.{⁅_⁆};
-ghost use Rattle.row.specs.Dots.{dotsPerColumn};
+ghost use Rattle.row.specs.Dots.{dotsPerColumn, shownColumns};
 
 pub fn dots_per_column(grey: u8, fx: Code) -> u16
     requires { ⌜ grey < 3 ⌝ }
@@ -25,9 +25,20 @@ pub fn columns(cr: Code) -> usize
     count.0 as usize
 }
 
-// How many dots all columns have.
-pub fn columns_width(cr: Code, per: u16) -> usize
-    ensures { λ w. ⌜ w ≡ ⁅ cr ⁆ * per ⌝ }
+// The columns that a row shows.
+pub fn shown_columns(hdot: u8, cr: Code) -> usize
+    ensures { λ n. ⌜ (n ≡ shownColumns hdot cr) × (n ≤ 256) ⌝ }
 {
-    columns(cr) * per as usize
+    let count = columns(cr);
+    if hdot == 0 {
+        return count;
+    }
+    count - 1
+}
+
+// How many dots they have.
+pub fn row_width(hdot: u8, cr: Code, per: u16) -> usize
+    ensures { λ w. ⌜ w ≡ shownColumns hdot cr * per ⌝ }
+{
+    shown_columns(hdot, cr) * per as usize
 }

@@ -16,4 +16,5 @@ answer-spec =
     (λ c. let p = c .before .before .before in let q = p .before in let u = q .before in let v = u .before in simp (v .if1 .left, u .if2 .left, q .if3 .left, p .if4 .left, c .before .before .if5 .left, c .before .if6 .left, c .if7 .taken))
     (λ c. let p = c .before .before .before in let q = p .before in let u = q .before in let v = u .before in let w = v .before in simp (w .if1 .left, v .if2 .left, u .if3 .left, q .if4 .left, p .if5 .left, c .before .before .if6 .left, c .before .if7 .left, c .if8 .taken))
     (λ c. let p = c .before .before .before in let q = p .before in let u = q .before in let v = u .before in let w = v .before in let x = w .before in simp (x .if1 .left, w .if2 .left, v .if3 .left, u .if4 .left, q .if5 .left, p .if6 .left, c .before .before .if7 .left, c .before .if8 .left, c .if9 .taken))
-    (λ c. let p = c .before .before .before in let q = p .before in let u = q .before in let v = u .before in let w = v .before in let x = w .before in simp (x .if1 .left, w .if2 .left, v .if3 .left, u .if4 .left, q .if5 .left, p .if6 .left, c .before .before .if7 .left, c .before .if8 .left, c .if9 .left)))
+    (λ c. let p = c .before .before .before in let q = p .before in let u = q .before in let v = u .before in let w = v .before in let x = w .before in let y = x .before in simp (y .if1 .left, x .if2 .left, w .if3 .left, v .if4 .left, u .if5 .left, q .if6 .left, p .if7 .left, c .before .before .if8 .left, c .before .if9 .left, c .if10 .taken))
+    (λ c. let p = c .before .before .before in let q = p .before in let u = q .before in let v = u .before in let w = v .before in let x = w .before in let y = x .before in simp (y .if1 .left, x .if2 .left, w .if3 .left, v .if4 .left, u .if5 .left, q .if6 .left, p .if7 .left, c .before .before .if8 .left, c .before .if9 .left, c .if10 .left)))

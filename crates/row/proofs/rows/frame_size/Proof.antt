@@ -13,4 +13,4 @@ frame-size-spec =
     (λ c κs. rw (c .before .in-layout .ensures) (grey-code (c .before .before .args .registers)))
     (λ c κs. search needs)
     (λ c κs. search needs)
-    (λ c. rw (c .count .ensures, c .before .columns-width .ensures, c .before .before .dots-per-column .ensures, c .before .before .before .before .in-layout .ensures)))
+    (λ c. rw (c .count .ensures, c .before .row-width .ensures, c .before .before .dots-per-column .ensures, c .before .before .before .before .in-layout .ensures)))

@@ -28,7 +28,7 @@ use Rattle.lines.proofs.Lengths.{Small, line-length, row-length}
 use Rattle.session.specs.Records.{busCalls, writeReplyLines, readReplyLines, callLines, callsLines, rowLines, framed, frameLines}
 use Rattle.session.specs.Stream.{Short, LinesShort}
 
--- Refusals are small numbers: those of a call are 1 to 7, those of a row 1 to 17
+-- Refusals are small numbers: those of a call are 1 to 7, those of a row 1 to 18
 
 abbrev SmallRefusal : Outcome → Type 0
 SmallRefusal o = o .reply .refusal < 8
@@ -39,9 +39,9 @@ call-refusal m (command b) = search (choose SmallRefusal, lit<) depth 12
 call-refusal m (write b) = search (choose SmallRefusal, lit<) depth 12
 call-refusal m read = search (choose SmallRefusal, lit<) depth 12
 
-row-refusal : (r : Registers) (memory font n buffer : ℕ) → rowRefusal r memory font n buffer < 18
+row-refusal : (r : Registers) (memory font n buffer : ℕ) → rowRefusal r memory font n buffer < 19
 unfolding rowRefusal
-row-refusal r memory font n buffer = search (choose (λ (refusal : ℕ). refusal < 18), lit<) depth 26
+row-refusal r memory font n buffer = search (choose (λ (refusal : ℕ). refusal < 19), lit<) depth 28
 
 -- Calls: a line has at most three numbers, each of 64 bits
 

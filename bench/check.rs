@@ -22,12 +22,12 @@ pub fn check() -> bool {
     };
     for setup in setups() {
         for frame in [0, 3, 23] {
-            count(rows::agree(&setup, frame), setup.name);
+            count(rows::agree(&setup, frame), &setup.name);
         }
     }
     for seed in 1..=SEEDS {
         let (setup, frame) = seeded(seed);
-        count(rows::agree(&setup, frame), &format!("set-up of seed {}", seed));
+        count(rows::agree(&setup, frame), &setup.name);
     }
     for record in bytes::records() {
         count(bytes::agree(&record), record.name);
@@ -41,6 +41,7 @@ fn seeded(seed: u64) -> (Setup, u32) {
     let mut random = Random::new(seed);
     let machine = setup::Setup::choose(&mut random).machine(&mut random);
     let font = random.bytes(FONT_SIZE as u32);
-    let setup = Setup { name: "seeded", controller: machine.controller, memory: machine.memory, font };
+    let name = format!("set-up of seed {}", seed);
+    let setup = Setup { name, unscrolled: None, controller: machine.controller, memory: machine.memory, font };
     (setup, random.next() as u32)
 }

@@ -22,7 +22,8 @@ const FRAMES: u32 = 4;
 /// How often a band is filled in a round: filling is over too soon for the clock.
 const FILLS: usize = 100;
 
-/// One round: the rows each way, one after the other.
+/// One round: the rows each way, one after the other. A library that refuses them has no time: one from before rows were
+/// scrolled takes a scrolled row to be wider.
 pub fn measure(setup: &Setup, round: u32) -> Times {
     let (width, rows) = setup.size();
     let height = rows / BANDS;
@@ -50,9 +51,12 @@ pub fn measure(setup: &Setup, round: u32) -> Times {
             unknown(&buffer);
         }
     });
+    // Asked only now, so as not to run the code once before it is measured.
+    let accepted = calls::row(&controller, &setup.memory, &setup.font, 0, 0, &mut buffer) == 0;
+    let of_accepted = |time: f64| if accepted { time } else { f64::NAN };
     Times {
-        ours_in_frames: ours_of_frames / dots(FRAMES * rows),
-        ours_in_a_band: ours_of_band / dots(height),
+        ours_in_frames: of_accepted(ours_of_frames / dots(FRAMES * rows)),
+        ours_in_a_band: of_accepted(ours_of_band / dots(height)),
         one_dot_at_a_time: one_dot_at_a_time / dots(height),
         fill: fill / dots(height) / FILLS as f64,
     }

@@ -7,7 +7,9 @@ use std::ops::RangeInclusive;
 use support::random::Random;
 
 pub struct Setup {
-    pub name: &'static str,
+    pub name: String,
+    /// Where it is scrolled: the place in `setups` of the one that isn't, of the same width.
+    pub unscrolled: Option<usize>,
     pub controller: Controller,
     pub memory: Vec<u8>,
     pub font: Vec<u8>,
@@ -60,24 +62,33 @@ pub fn setups() -> Vec<Setup> {
     let font_codes: &[RangeInclusive<u8>] = &[0x20..=0x7F, 0xA0..=0xDF];
     let cg_ram_codes: &[RangeInclusive<u8>] = &[0x80..=0x9F, 0xE0..=0xFF];
     let in_cg_ram = Registers { cgram: 0x4000, ..text(8, 40, 240) };
-    [
-        ("640 x 240 graphics, two layers", graphics(80, 240), font_codes),
-        ("320 x 240 text over graphics, 8 x 8", text(8, 40, 240), font_codes),
-        ("320 x 240 text in CG RAM over graphics", in_cg_ram, cg_ram_codes),
-        ("320 x 240 text over graphics, [FX] 5", text(5, 64, 240), font_codes),
-        ("240 x 128 text over graphics, [FX] 6", text(6, 40, 128), font_codes),
-        ("320 x 128 of 2 bits, three layers, priority", grey(1, 3, 80, 128), font_codes),
-        ("160 x 120 of 4 bits, three layers, OR", grey(2, 0, 80, 120), font_codes),
-        ("160 x 120 of 4 bits, three layers, priority", grey(2, 3, 80, 120), font_codes),
-        ("640 x 240 of a display that is off", Registers { d: false, ..graphics(80, 240) }, font_codes),
-    ]
-    .into_iter()
-    .map(|(name, registers, codes)| setup(name, registers, codes))
-    .collect()
+    // The number is how many dots it is scrolled by too, in a set-up of its own; 0 for none.
+    let listed = [
+        ("640 x 240 graphics, two layers", graphics(80, 240), font_codes, 3),
+        ("320 x 240 text over graphics, 8 x 8", text(8, 40, 240), font_codes, 3),
+        ("320 x 240 text in CG RAM over graphics", in_cg_ram, cg_ram_codes, 0),
+        ("320 x 240 text over graphics, [FX] 5", text(5, 64, 240), font_codes, 0),
+        ("240 x 128 text over graphics, [FX] 6", text(6, 40, 128), font_codes, 5),
+        ("320 x 128 of 2 bits, three layers, priority", grey(1, 3, 80, 128), font_codes, 0),
+        ("160 x 120 of 4 bits, three layers, OR", grey(2, 0, 80, 120), font_codes, 0),
+        ("160 x 120 of 4 bits, three layers, priority", grey(2, 3, 80, 120), font_codes, 0),
+        ("640 x 240 of a display that is off", Registers { d: false, ..graphics(80, 240) }, font_codes, 0),
+    ];
+    let unscrolled = listed.iter().map(|(name, registers, codes, _)| setup(name.to_string(), *registers, codes));
+    let scrolled = listed.iter().enumerate().filter(|(_, (.., by))| *by != 0).map(|(place, (name, registers, codes, by))| Setup {
+        unscrolled: Some(place),
+        ..setup(format!("{}, scrolled by {}", name, by), scrolled(*registers, *by), codes)
+    });
+    unscrolled.chain(scrolled).collect()
+}
+
+/// A column more, so that the rows are as wide.
+fn scrolled(r: Registers, by: u8) -> Registers {
+    Registers { cr: r.cr + 1, tcr: r.tcr + 1, ap: r.ap + 1, hdot: by, ..r }
 }
 
 /// Memory and font of seeded bytes; where block 1 is text, its codes are of the given ranges.
-fn setup(name: &'static str, registers: Registers, codes: &[RangeInclusive<u8>]) -> Setup {
+fn setup(name: String, registers: Registers, codes: &[RangeInclusive<u8>]) -> Setup {
     let mut random = Random::new(1);
     let mut memory = random.bytes(MEMORY_SIZE as u32);
     if !registers.dm1 {
@@ -85,5 +96,5 @@ fn setup(name: &'static str, registers: Registers, codes: &[RangeInclusive<u8>])
         memory[TEXT].fill_with(|| random.pick(&codes));
     }
     let font = random.bytes(FONT_SIZE as u32);
-    Setup { name, controller: Controller { registers, pending: NONE, place: 0 }, memory, font }
+    Setup { name, unscrolled: None, controller: Controller { registers, pending: NONE, place: 0 }, memory, font }
 }

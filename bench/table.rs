@@ -23,6 +23,8 @@ struct Line {
     slower: Option<f64>,
     /// Filling, copying, or `cat`.
     base: Option<f64>,
+    /// Ours where the same rows aren't scrolled.
+    unscrolled: Option<f64>,
 }
 
 pub fn print(panel: &str, folder: &str, bench: &str, other: Option<&str>) -> Result<(), String> {
@@ -30,16 +32,18 @@ pub fn print(panel: &str, folder: &str, bench: &str, other: Option<&str>) -> Res
     let panel = Path::new(panel).canonicalize().map_err(|error| format!("{}: {}", panel, error))?;
     lines.extend(program(&Program { panel, folder: PathBuf::from(folder) })?);
     let with_other = other.is_some();
-    println!("| What | Unit | Ours |{} One dot at a time | Fill, copy, cat | One dot / ours | Ours / fill, copy, cat |",
+    println!("| What | Unit | Ours |{} One dot at a time | Fill, copy, cat | One dot / ours | Ours / fill, copy, cat | Scrolled / not |",
         if with_other { " Other | Ours / other |" } else { "" });
-    println!("|---|---|---:|{}---:|---:|---:|---:|", if with_other { "---:|---:|" } else { "" });
+    println!("|---|---|---:|{}---:|---:|---:|---:|---:|", if with_other { "---:|---:|" } else { "" });
     for line in lines {
         let ratio = |above: Option<f64>, below: Option<f64>| Some(above? / below?);
         let mut cells = vec![line.what, line.unit.to_string(), number(line.ours)];
         if with_other {
             cells.extend([number(line.other), number(ratio(line.ours, line.other))]);
         }
-        cells.extend([number(line.slower), number(line.base), number(ratio(line.slower, line.ours)), number(ratio(line.ours, line.base))]);
+        cells.extend([number(line.slower), number(line.base)]);
+        let ratios = [ratio(line.slower, line.ours), ratio(line.ours, line.base), ratio(line.ours, line.unscrolled)];
+        cells.extend(ratios.map(number));
         println!("| {} |", cells.join(" | "));
     }
     Ok(())
@@ -73,18 +77,23 @@ fn times(bench: &str, other: Option<&str>) -> Result<Vec<Line>, String> {
             Some(median(samples))
         }
     };
-    let rows = |how: &'static str| setups().into_iter().map(move |setup| (format!("{}{}", setup.name, how), "ns a dot"));
-    let records = bytes::records().into_iter().map(|record| (record.name.to_string(), "ns a byte"));
-    let names = rows("").chain(rows("; in bands")).chain(records);
+    let setups = setups();
+    // A set-up's rows in frames have its place as their line; in bands they come behind all those.
+    let rows = |how: &'static str, first: usize| {
+        setups.iter().map(move |setup| (format!("{}{}", setup.name, how), "ns a dot", setup.unscrolled.map(|place| first + place)))
+    };
+    let records = bytes::records().into_iter().map(|record| (record.name.to_string(), "ns a byte", None));
+    let names = rows("", 0).chain(rows("; in bands", setups.len())).chain(records);
     Ok(names
         .enumerate()
-        .map(|(line, (what, unit))| Line {
+        .map(|(line, (what, unit, unscrolled))| Line {
             what,
             unit,
             ours: of(&ours, line, 0),
             other: of(&others, line, 0),
             slower: of(&ours, line, 1),
             base: of(&ours, line, 2),
+            unscrolled: unscrolled.and_then(|line| of(&ours, line, 0)),
         })
         .collect())
 }

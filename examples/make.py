@@ -3,6 +3,7 @@
 
 page.bus    a text page over a graphics frame, with a message strip in the third screen block
 grey.bus    a picture of four shades: a gradient behind a box that has priority over it
+scroll.bus  a job list that moves to the left a dot at a time, its cursor with it, until it has moved by a character
 worked.bus  the worked example of the rules: two rows of graphics, and a byte that is no command
 """
 import os
@@ -68,6 +69,20 @@ def grey():
     return made + show(0)
 
 
+def scroll():
+    width, rows = 10, 16
+    made = bus(0x40, 0x10, 7, 7, width - 1, width + 4, rows - 1, 16, 0)  # 80 x 16 dots of lines of 16 characters
+    made += bus(0x44, 0, 0, rows - 1, 0x00, 0x01, rows - 1)
+    made += bus(0x5B, 0x00) + bus(0x5D, 7, 7) + bus(0x59, 0x15)  # block 1 text, OR, steady, the cursor a steady line
+    made += write(0x0000, b"JOB 17 TO BAY 4 ") + write(0x0010, b"JOB 14 TO BAY 7 ")
+    made += bus(0x46, 0x10, 0) + show(0)  # the cursor stands below the second job
+    made += bus(0x40, 0x10, 7, 7, width)  # a column more, as scrolled rows are a column narrower
+    for dots in range(1, 8):
+        made += bus(0x5A, dots) + show(dots)
+    made += bus(0x44, 1, 0) + bus(0x5A, 0) + bus(0x40, 0x10, 7, 7, width - 1)  # now block 1 starts a character later instead
+    return made + show(8)
+
+
 def worked():
     made = bus(0x40, 0x10, 7, 7, 0, 4, 1, 1, 0) + bus(0x44, 0, 0, 1, 0x10, 0, 1) + bus(0x5B, 0x0D) + bus(0x59, 0x14)
     made += bus(0x46, 0, 0) + bus(0x42, 0xA5, 0x3C) + bus(0x46, 0x10, 0) + bus(0x42, 0xFF)
@@ -76,7 +91,8 @@ def worked():
 
 def main():
     folder = sys.argv[1] if len(sys.argv) > 1 else os.path.dirname(os.path.abspath(__file__))
-    for name, data in (("font.bin", font()), ("page.bus", page()), ("grey.bus", grey()), ("worked.bus", worked())):
+    made = {"font.bin": font(), "page.bus": page(), "grey.bus": grey(), "scroll.bus": scroll(), "worked.bus": worked()}
+    for name, data in made.items():
         with open(os.path.join(folder, name), "wb") as file:
             file.write(data)
 

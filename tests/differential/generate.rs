@@ -105,7 +105,7 @@ fn picture(odd_font: bool, records: &mut Records, random: &mut Random) {
         show(records, random);
     }
     let mut setup = Setup::choose(random);
-    let beyond = random.chance(if odd_font { 60 } else { 15 });
+    let beyond = random.chance(if odd_font { 60 } else { 20 });
     if beyond {
         limits::exceed(&mut setup, random);
     } else if random.chance(5) {

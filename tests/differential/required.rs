@@ -4,7 +4,7 @@ use reference::commands::*;
 use support::counts::Event;
 
 /// Events that need no number.
-const PLAIN: [&str; 74] = [
+const PLAIN: [&str; 87] = [
     // Layers and blocks.
     "two layers, SL1 > SL2, before the split",
     "two layers, SL1 > SL2, after the split",
@@ -28,6 +28,9 @@ const PLAIN: [&str; 74] = [
     "cursor not seen, CM 0 and [CRY] above [FY]",
     "cursor not seen on a row that SL1 blanks",
     "flashing at a frame number of 80000000h or above",
+    "cursor cut by the left edge of a scrolled row",
+    "cursor cut by the right edge of a scrolled row",
+    "cursor hidden by scrolling",
     // Fetches and glyphs.
     "graphics address wrapped to a byte that isn't 0",
     "text code address wrapped to a byte that isn't 0",
@@ -58,6 +61,16 @@ const PLAIN: [&str; 74] = [
     "what would get 15 accepted with FC 0",
     "frame accepted with D 0",
     "row 255 shown",
+    "11, scrolled",
+    "13 at TC/R = C/R + 3, scrolled",
+    "18 by grey alone",
+    "18 by n above [FX] alone",
+    "18 by [C/R] 1 alone",
+    "18 with D 0",
+    "18 asleep",
+    "scrolled frame accepted with D 0",
+    "scrolled frame of 2 columns accepted",
+    "scrolled frame of 81 columns of 8 accepted",
     // Bus.
     "data with no command pending gets 3",
     "read with no command pending gets 6",
@@ -88,8 +101,8 @@ const PLAIN: [&str; 74] = [
 ];
 
 /// Events that are needed with each of some numbers.
-const WITH_NUMBER: [(&str, &[u8]); 45] = [
-    ("refusal # printed", &[2, 3, 4, 5, 6, 7, 8, 9, 10, 11, 12, 13, 14, 15]),
+const WITH_NUMBER: [(&str, &[u8]); 48] = [
+    ("refusal # printed", &[2, 3, 4, 5, 6, 7, 8, 9, 10, 11, 12, 13, 14, 15, 18]),
     ("command $ accepted", &CODES),
     ("two layers, SL1 < SL2, before the split, OV #", &[0, 1]),
     ("two layers, SL1 < SL2, after the split, OV #", &[0, 1]),
@@ -116,6 +129,9 @@ const WITH_NUMBER: [(&str, &[u8]); 45] = [
     ("width 640 accepted at # bits", &[1, 2]),
     ("14 with OV #", &[0, 1]),
     ("frame accepted asleep with D #", &[0, 1]),
+    ("18 by n = [FX] alone, [FX] #", &[1, 2, 3, 4, 5, 6, 7]),
+    ("scrolled frame accepted asleep with D #", &[0, 1]),
+    ("row of # layers that only its own scrolling gives", &[2, 3]),
     ("cursor moved by direction $", &[CSRDIR_RIGHT, CSRDIR_LEFT, CSRDIR_UP, CSRDIR_DOWN]),
     ("cursor wrapped by direction $", &[CSRDIR_RIGHT, CSRDIR_LEFT, CSRDIR_UP, CSRDIR_DOWN]),
     ("run by direction $ of a whole record", &[CSRDIR_RIGHT, CSRDIR_LEFT, CSRDIR_UP, CSRDIR_DOWN]),
@@ -152,6 +168,9 @@ const FIXED_BITS: [(u8, u8, &[u8]); 8] = [
     (1, GRAY_SCALE, &[7, 6, 5, 4, 3, 2]),
 ];
 
+/// What a frame can be refused for, in the order of the tests.
+const IN_ORDER: [u8; 9] = [8, 9, 10, 18, 11, 12, 13, 14, 15];
+
 pub fn required() -> Vec<Event> {
     let mut all: Vec<Event> = PLAIN.iter().map(|template| (*template, vec![])).collect();
     for (template, numbers) in WITH_NUMBER {
@@ -181,11 +200,14 @@ pub fn required() -> Vec<Event> {
             all.extend((1..=last).map(|mx| ("mixed otherwise than OR at # bits, MX #, # layers", vec![bits, mx, layers])));
         }
     }
-    for first in 8..=15 {
-        for later in first + 1..=15 {
+    for fx in 2..=8 {
+        all.extend((1..fx).map(|by| ("row at [FX] # that only scrolling by # gives", vec![fx, by])));
+    }
+    for (place, first) in IN_ORDER.iter().enumerate() {
+        for later in &IN_ORDER[place + 1..] {
             // 12 needs W/S = 1, and 14 W/S = 0.
-            if (first, later) != (12, 14) {
-                all.push(("refusal # before #, both apply", vec![first, later]));
+            if (*first, *later) != (12, 14) {
+                all.push(("refusal # before #, both apply", vec![*first, *later]));
             }
         }
     }

@@ -4,6 +4,7 @@ use crate::handed_in;
 use exported::saved;
 use reference::commands::{CODES, MWRITE};
 use reference::refusals::{FONT_SIZE, MEMORY_SIZE};
+use reference::registers::Registers;
 use std::fmt;
 use support::limits;
 use support::random::Random;
@@ -85,7 +86,8 @@ fn resized(mut bytes: Vec<u8>, size: usize, wrong: &[usize], random: &mut Random
 }
 
 fn row(controller: &[u8], random: &mut Random) -> Call {
-    let (width, rows) = saved::read(controller).map_or((8, 1), |controller| controller.frame_size());
+    let registers = saved::read(controller).map_or(Registers::reset(), |controller| controller.registers.in_layout());
+    let rows = registers.rows();
     let row = match random.below(18) {
         0 => rows,
         1 => rows - 1,
@@ -95,12 +97,14 @@ fn row(controller: &[u8], random: &mut Random) -> Call {
         5 => random.next() as u32,
         _ => random.below(rows),
     };
-    let width = width as usize;
+    let width = registers.width() as usize;
     let length = match random.below(18) {
-        0 => width - 1,
+        // One column, scrolled, has no dots.
+        0 => width.saturating_sub(1),
         1 => width + 1,
         2 => 0,
         3 => random.below(700) as usize,
+        4 => registers.unscrolled_width() as usize,
         _ => width,
     };
     let frame = if random.chance(50) { 0 } else { random.next() as u32 };

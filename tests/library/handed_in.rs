@@ -29,6 +29,7 @@ pub fn fields(controller: &mut [u8], random: &mut Random) {
         match place {
             GREY if random.chance(40) => controller[GREY] = 3,
             FX if random.chance(80) => {
+                controller[HDOT] = 0;
                 controller[CRX] = 0;
                 controller[GREY] = 0;
             }

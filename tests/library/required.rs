@@ -21,6 +21,7 @@ const PLAIN: [&str; 26] = [
     "data writes that start outside memory",
     "data writes all taken as parameters",
     "15 since CRY is read as 0",
+    "18 since FX is read as 0",
     "16 at row [L/F]",
     "16 at the last number of 32 bits",
     "16 where the row modulo 65,536 would pass",
@@ -28,8 +29,7 @@ const PLAIN: [&str; 26] = [
     "17 for an empty buffer",
     "17 for a byte too few",
     "17 for a byte too many",
-    "row accepted in a dark display",
-    "row with a dot that isn't 0",
+    "17 for a buffer of the unscrolled width",
     "row 255 shown",
     "grey code 3 in a lit row",
 ];
@@ -44,7 +44,7 @@ pub fn required() -> Vec<Event> {
     let mut each = |template: &'static str, numbers: &mut dyn Iterator<Item = u8>| {
         all.extend(numbers.map(|number| (template, vec![number])));
     };
-    each("answer #", &mut (0..=17));
+    each("answer #", &mut (0..=18));
     each("CSRR read #", &mut (1..=2));
     for call in [
         "1 on a data write, wrong memory #", "1 on data writes, wrong memory #", "1 on a data read, wrong memory #",
@@ -62,9 +62,12 @@ pub fn required() -> Vec<Event> {
     let fields = || LIMITED.iter().map(|field| field.0 as u8);
     each("field at # outside its layout in a lit row", &mut fields());
     each("field at # outside its layout replaced by a parameter", &mut fields());
-    // Nothing reads HDOT SCR; CRY is read as 0 only where FC is 00, or else the row gets 15.
-    let decisive = [FX, FY, FP, FC, CRX, MX, GREY];
-    each("field at # whose low bits would give another row", &mut decisive.iter().map(|field| *field as u8));
+    // CRY is read as 0 only where FC is 00, or else the row gets 15.
+    each("field at # whose low bits would give another row", &mut fields().filter(|field| *field != CRY as u8));
+    // FX read as 0 gets 18, and HDOT SCR read as 0 scrolls nothing.
+    each("field at # outside its layout in a scrolled row", &mut [FY, FP, FC, CRX, CRY, MX, GREY].iter().map(|field| *field as u8));
+    each("row scrolled by # with a dot that isn't 0", &mut (0..=7));
+    each("row scrolled by # accepted in a dark display", &mut (0..=7));
     each("flag at # above 1, written back as 0", &mut saved::FLAGS.iter().map(|flag| *flag as u8));
     // D above 1 is read as 0, so the display is dark.
     let seen = saved::FLAGS.iter().filter(|flag| **flag != D);
@@ -75,7 +78,7 @@ pub fn required() -> Vec<Event> {
     for (first, later) in [(1, 8), (1, 16), (1, 17), (16, 17)] {
         all.push(("refusal # before #, both apply", vec![first, later]));
     }
-    for first in 8..=15 {
+    for first in (8..=15).chain([18]) {
         all.extend([16, 17].iter().map(|later| ("refusal # before #, both apply", vec![first, *later])));
     }
     all

@@ -126,6 +126,7 @@ fn tested_row(controller: &Controller, request: &RowRequest, counts: &mut Counts
         counts.hit("refusal # before #, both apply", &[first, later]);
     }
     let (width, rows) = controller.frame_size();
+    let unscrolled_width = registers.unscrolled_width();
     match first {
         1 => counts.hit("1 on a row, wrong memory #", &[wrong_memory(request.memory)]),
         8 => {
@@ -133,6 +134,7 @@ fn tested_row(controller: &Controller, request: &RowRequest, counts: &mut Counts
             counts.hit("8, wrong font #", &[index as u8]);
         }
         15 if controller.registers.cry >= 16 && registers.crx <= registers.fx => counts.hit("15 since CRY is read as 0", &[]),
+        18 if controller.registers.fx >= 16 && registers.grey == 0 && registers.cr != 0 => counts.hit("18 since FX is read as 0", &[]),
         16 if request.row == rows => counts.hit("16 at row [L/F]", &[]),
         16 if request.row == u32::MAX => counts.hit("16 at the last number of 32 bits", &[]),
         16 if request.row % 65_536 < rows => counts.hit("16 where the row modulo 65,536 would pass", &[]),
@@ -140,13 +142,15 @@ fn tested_row(controller: &Controller, request: &RowRequest, counts: &mut Counts
         17 if request.buffer == 0 => counts.hit("17 for an empty buffer", &[]),
         17 if request.buffer + 1 == width as usize => counts.hit("17 for a byte too few", &[]),
         17 if request.buffer == width as usize + 1 => counts.hit("17 for a byte too many", &[]),
+        17 if request.buffer == unscrolled_width as usize => counts.hit("17 for a buffer of the unscrolled width", &[]),
         _ => {}
     }
 }
 
 fn accepted_row(controller: &Controller, before: &Kept, font: &[u8], frame: u32, request: &RowRequest, counts: &mut Counts) {
+    let by = controller.registers.in_layout().scrolled_by() as u8;
     if !controller.registers.d || controller.registers.asleep {
-        return counts.hit("row accepted in a dark display", &[]);
+        return counts.hit("row scrolled by # accepted in a dark display", &[by]);
     }
     let row_of = |bytes: &[u8]| {
         let mut dots = vec![0; request.buffer];
@@ -155,13 +159,16 @@ fn accepted_row(controller: &Controller, before: &Kept, font: &[u8], frame: u32,
     };
     let row = row_of(&before.controller);
     if row.iter().flatten().any(|dot| *dot != 0) {
-        counts.hit("row with a dot that isn't 0", &[]);
+        counts.hit("row scrolled by # with a dot that isn't 0", &[by]);
     }
     for (at, end) in LIMITED {
         if before.controller[at] < end {
             continue;
         }
         counts.hit("field at # outside its layout in a lit row", &[at as u8]);
+        if by != 0 {
+            counts.hit("field at # outside its layout in a scrolled row", &[at as u8]);
+        }
         let mut low_bits = before.controller.clone();
         low_bits[at] &= end.next_power_of_two() - 1;
         if row_of(&low_bits) != row {

@@ -1,5 +1,5 @@
-//! The refusals of a row: 1, then 8 to 17 in number order (01, 'Refusal numbers'). They are tested with D = 0 and asleep
-//! too.
+//! The refusals of a row: 1, then 8 to 17 in number order (01, 'Refusal numbers'), with 18 after 10 (#101). They are tested
+//! with D = 0 and asleep too.
 
 use super::registers::{count, Registers};
 
@@ -16,14 +16,16 @@ pub struct RowRequest {
 }
 
 /// Each refusal with whether it applies, in the order of the tests.
-pub fn tests_of_row(r: &Registers, request: &RowRequest) -> [(u8, bool); 11] {
+pub fn tests_of_row(r: &Registers, request: &RowRequest) -> [(u8, bool); 12] {
     let fx = count(r.fx);
+    let by = r.scrolled_by();
     let two_layers = !(r.ov && r.dm_is_11());
     [
         (1, request.memory != MEMORY_SIZE),
         (8, request.font != FONT_SIZE),
         (9, r.grey != 0 && (!r.dm_is_11() || fx != 8)),
         (10, fx > 8),
+        (18, by != 0 && (r.grey != 0 || by >= fx || count(r.cr) == 1)),
         (11, r.width() > WIDEST),
         (12, r.ws && r.rows() % 2 == 1),
         (13, u32::from(r.tcr) < u32::from(r.cr) + 4),

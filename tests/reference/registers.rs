@@ -8,8 +8,8 @@ pub enum Direction {
     Down,
 }
 
-/// Every stored field but the pending command, each as wide as a caller may hand it in. IV, WF and the HDOT SCR value are
-/// stored and read by nothing yet.
+/// Every stored field but the pending command, each as wide as a caller may hand it in. IV and WF are stored and read by
+/// nothing.
 #[derive(Clone, Copy, PartialEq, Debug)]
 pub struct Registers {
     pub asleep: bool,
@@ -128,8 +128,22 @@ impl Registers {
         }
     }
 
-    pub fn width(&self) -> u32 {
+    /// How many dots to the left a row is scrolled: the HDOT SCR value (#101).
+    pub fn scrolled_by(&self) -> u32 {
+        u32::from(self.hdot)
+    }
+
+    /// The width of the row that is composed without scrolling.
+    pub fn unscrolled_width(&self) -> u32 {
         count(self.cr) * self.dots_of_column()
+    }
+
+    /// A row that is scrolled is a column narrower.
+    pub fn width(&self) -> u32 {
+        match self.scrolled_by() {
+            0 => self.unscrolled_width(),
+            _ => (count(self.cr) - 1) * self.dots_of_column(),
+        }
     }
 
     pub fn rows(&self) -> u32 {

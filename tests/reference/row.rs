@@ -16,7 +16,13 @@ pub struct Picture<'a> {
 }
 
 impl Picture<'_> {
+    /// A dot of the row: the one so many dots further on in the row that is composed without scrolling (#101).
     pub fn dot(&self, x: u32, row: u32) -> u8 {
+        self.unscrolled_dot(x + self.registers.scrolled_by(), row)
+    }
+
+    /// A dot of the row that is composed without scrolling. The functions below count dots in that row too.
+    pub fn unscrolled_dot(&self, x: u32, row: u32) -> u8 {
         let r = self.registers;
         if !r.d || r.asleep {
             return 0;

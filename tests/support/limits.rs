@@ -1,4 +1,4 @@
-//! Set-ups at and past the limits of a row, refusals 9 to 15 (01, 'Refusal numbers').
+//! Set-ups at and past the limits of a row, refusals 9 to 15 (01, 'Refusal numbers') and 18 (#101).
 
 use crate::random::Random;
 use crate::setup::Setup;
@@ -7,13 +7,15 @@ use crate::setup::Setup;
 pub fn widen(setup: &mut Setup, random: &mut Random) {
     // [FX] and [C/R]; 641 dots cannot be had, as 641 is prime.
     let (fx, columns) = match setup.grey {
-        0 => random.pick(&[(8, 80), (5, 128), (4, 160), (8, 81), (7, 92), (6, 107), (5, 129), (3, 214)]),
+        0 => random.pick(&[(8, 80), (8, 80), (5, 128), (4, 160), (8, 81), (7, 92), (6, 107), (5, 129), (3, 214)]),
         1 => random.pick(&[(8, 160), (8, 161)]),
         _ => (8, 240),
     };
     setup.fx = fx - 1;
     setup.crx = setup.crx.min(setup.fx);
-    setup.cr = (columns - 1) as u8;
+    setup.hdot = setup.hdot.min(setup.fx);
+    // A scrolled row needs one more.
+    setup.cr = (columns - 1) as u8 + u8::from(setup.hdot != 0);
     setup.tcr = setup.cr + 4;
     setup.lf = if setup.ws { 1 } else { random.below(3) as u8 };
 }
@@ -26,6 +28,7 @@ pub fn crowd(setup: &mut Setup, random: &mut Random) {
     if setup.grey == 0 {
         setup.fx = random.below(2) as u8;
         setup.crx = 0;
+        setup.hdot = setup.hdot.min(setup.fx);
     }
 }
 
@@ -42,6 +45,7 @@ pub fn exceed(setup: &mut Setup, random: &mut Random) {
     if random.chance(25) {
         setup.grey = random.between(1, 2) as u8;
         setup.fx = random.pick(&[7, 7, 6, 8, 15]);
+        setup.hdot = 0;
     }
     if random.chance(20) {
         setup.dm1 = !setup.dm1;
@@ -69,5 +73,12 @@ pub fn exceed(setup: &mut Setup, random: &mut Random) {
     }
     if random.chance(35) {
         setup.crx = (setup.fx + random.between(0, 2) as u8).min(15);
+    }
+    if random.chance(35) {
+        let any = random.between(1, 7) as u8;
+        setup.hdot = random.pick(&[any, setup.fx + 1, setup.fx + 1]).min(7);
+        if random.chance(30) {
+            setup.cr = 0;
+        }
     }
 }

@@ -37,6 +37,7 @@ pub struct Setup {
     pub dm1: bool,
     pub mx: u8,
     pub cgram: u16,
+    pub hdot: u8,
     pub grey: u8,
     pub cursor: u16,
     /// Areas of memory: bytes for graphics and CG RAM, codes for text.
@@ -93,6 +94,7 @@ impl Setup {
             dm1,
             mx: random.below(4) as u8,
             cgram: cgram_address(data.0, codes[0], m2, random),
+            hdot: dots_scrolled(fx, cr, grey, random),
             grey,
             cursor: 0,
             data,
@@ -133,7 +135,7 @@ impl Setup {
             (CSRFORM, vec![self.crx, flag(self.cm, 7) | self.cry]),
             (OVLAY, vec![flag(self.ov, 4) | flag(self.dm2, 3) | flag(self.dm1, 2) | self.mx]),
             (CGRAM_ADR, self.cgram.to_le_bytes().to_vec()),
-            (HDOT_SCR, vec![random.below(8) as u8]),
+            (HDOT_SCR, vec![self.hdot]),
             (GRAY_SCALE, vec![self.grey]),
             (if random.chance(94) { DISP_ON } else { DISP_OFF }, vec![self.flashing]),
         ];
@@ -180,6 +182,15 @@ fn scroll_lines(arrangement: Arrangement, rows: u32, random: &mut Random) -> (u8
         Arrangement::SplitSecond => (above, split),
         Arrangement::Halves => (random.below(rows) as u8, random.below(rows) as u8),
         Arrangement::Three => random.pick(&[(split, above), (above, split), (split, split)]),
+    }
+}
+
+/// Dots to scroll by where a row can be scrolled; none in some three of five set-ups.
+fn dots_scrolled(fx: u8, cr: u8, grey: u8, random: &mut Random) -> u8 {
+    if grey == 0 && fx > 0 && cr > 0 && random.chance(75) {
+        random.between(1, u32::from(fx)) as u8
+    } else {
+        0
     }
 }
 

@@ -8,5 +8,6 @@ mod files;
 mod limits;
 mod rows;
 mod runs;
+mod scrolling;
 
 pub use files::watch_file;

@@ -1,6 +1,6 @@
 //! The rows of an accepted frame: how blocks make layers, and where bytes are fetched (01, 'Blocks and layers of a row').
 
-use super::{cursor, dots};
+use super::{cursor, dots, scrolling};
 use reference::glyphs::{glyph_source, Source};
 use reference::layers::{code_sum, glyph_row, graphics_sum, is_text, layers_of_row, Block, Layers};
 use reference::model::Controller;
@@ -25,9 +25,12 @@ pub fn watch_frame(controller: &Controller, memory: &[u8], font: &[u8], frame: u
                 fetches(&picture, *block, row, column, counts);
             }
         }
-        for x in 0..registers.width() {
+        for x in scrolling::shown(registers) {
             let shown = dots::watch(&picture, &layers, x, row, counts);
             cursor::watch(&picture, &layers, x, row, shown, counts);
+        }
+        if registers.scrolled_by() != 0 {
+            scrolling::watch(&picture, &layers, row, counts);
         }
     }
 }

@@ -10,7 +10,6 @@ use Rattle.choice.specs.Choice.{if_then_else_, _<?_}
 use Rattle.registers.specs.Counts.{⁅_⁆}
 use Rattle.registers.specs.Sizes.{memorySize, fontSize}
 use Rattle.row.specs.declared.LayerRow.{LayerRow}
-use Rattle.row.specs.declared.RowChecks.{RowChecks}
 use Rattle.dots.specs.Bytes.{bitsPerDot, dotOf}
 use Rattle.row.specs.Cursor.{hasCursor}
 use Rattle.row.specs.Dots.{perColumn, columnDot}
@@ -31,21 +30,6 @@ cursorByte r frame layer c byte = if hasCursor r frame layer c then bitXor byte 
 abbrev pub ColumnDots : Registers → List ℕ → List ℕ → ℕ → ℕ → List ℕ → Type 0
 ColumnDots r memory font frame n line =
     (c j : ℕ) → c < ⁅ r .system .cr ⁆ → j < perColumn r → dotOf (bitsPerDot (r .grey)) (getD line c 0) j ≡ columnDot r memory font frame n c j
-
--- the first refusal of a row that applies, once memory and font have their sizes
-unfoldable pub firstRefusal : RowChecks → ℕ
-firstRefusal k =
-    if k .«grey_mode» then 9
-    else if k .«character_width» then 10
-    else if k .«scroll_mode» then 18
-    else if k .«row_width» then 11
-    else if k .«odd_lines» then 12
-    else if k .«short_line» then 13
-    else if k .«layer_order» then 14
-    else if k .«cursor_shape» then 15
-    else if k .«row_number» then 16
-    else if k .«buffer_size» then 17
-    else 0
 
 -- what refusals 1 and 8 leave: memory and font of their sizes
 abbrev pub Sized : List ℕ → List ℕ → Type 0

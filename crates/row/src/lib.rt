@@ -30,17 +30,3 @@ pub struct FrameSize {
     pub width: usize,
     pub rows: Count,
 }
-
-// Which refusals of a row apply, once memory and font have their sizes.
-pub(crate) struct RowChecks {
-    pub grey_mode: bool,
-    pub character_width: bool,
-    pub scroll_mode: bool,
-    pub row_width: bool,
-    pub odd_lines: bool,
-    pub short_line: bool,
-    pub layer_order: bool,
-    pub cursor_shape: bool,
-    pub row_number: bool,
-    pub buffer_size: bool,
-}

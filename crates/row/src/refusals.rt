@@ -1,5 +1,4 @@
 // Which rows are refused.
-use crate::RowChecks;
 use crate::layers::three_layers;
 use crate::width::dots_per_column;
 use crate::width::row_width;
@@ -14,7 +13,6 @@ ghost use Prim.Native.Nat.{_<_};
 ghost use mathlib.Core.Path.{_≡_};
 ghost use Rattle.registers.specs.Refusals.{reply};
 ghost use Rattle.registers.specs.Sizes.{memorySize, fontSize};
-ghost use Rattle.row.specs.Stages.{firstRefusal};
 ghost use Rattle.row.specs.Refusals.{greyMode, scrollMode, oddLines, layerOrder, cursorShape, rowRefusal};
 
 fn grey_mode(grey: u8, o: Overlay, fx: Code) -> bool
@@ -85,46 +83,8 @@ fn cursor_shape(fc: u8, f: CursorForm, fx: Code) -> bool
     fx.count().0 < f.crx.count().0
 }
 
-impl RowChecks {
-    // The first that applies is the answer.
-    fn answer(self) -> Answer
-        ensures { λ a. ⌜ reply a .refusal ≡ firstRefusal self ⌝ }
-    {
-        if self.grey_mode {
-            return Answer::Refused(Refusal::GreyMode);
-        }
-        if self.character_width {
-            return Answer::Refused(Refusal::CharacterWidth);
-        }
-        if self.scroll_mode {
-            return Answer::Refused(Refusal::ScrollMode);
-        }
-        if self.row_width {
-            return Answer::Refused(Refusal::RowWidth);
-        }
-        if self.odd_lines {
-            return Answer::Refused(Refusal::OddLines);
-        }
-        if self.short_line {
-            return Answer::Refused(Refusal::ShortLine);
-        }
-        if self.layer_order {
-            return Answer::Refused(Refusal::LayerOrder);
-        }
-        if self.cursor_shape {
-            return Answer::Refused(Refusal::CursorShape);
-        }
-        if self.row_number {
-            return Answer::Refused(Refusal::RowNumber);
-        }
-        if self.buffer_size {
-            return Answer::Refused(Refusal::BufferSize);
-        }
-        Answer::Accepted
-    }
-}
-
-// The answer to row n, with memory and font of their sizes. An accepted row number fits 16 bits.
+// The answer to row n, with memory and font of their sizes: the first refusal that applies. Each is tested only where none before it does, which
+// costs an accepted row least. An accepted row number fits 16 bits.
 pub fn row_answer(r: Registers, n: u32, buffer_length: usize) -> Answer
     requires { ⌜ r .grey < 3 ⌝ }
     ensures { λ a. ⌜ reply a .refusal ≡ rowRefusal r memorySize fontSize n «buffer_length» ⌝ }
@@ -132,17 +92,35 @@ pub fn row_answer(r: Registers, n: u32, buffer_length: usize) -> Answer
 {
     let s = r.system;
     let width = row_width(r.hdot, s.cr, dots_per_column(r.grey, s.fx));
-    let checks = RowChecks {
-        grey_mode: grey_mode(r.grey, r.overlay, s.fx),
-        character_width: 8 < s.fx.count().0,
-        scroll_mode: scroll_mode(r.hdot, r.grey, s.fx, s.cr),
-        row_width: 640 < width,
-        odd_lines: odd_lines(s.ws, s.lf),
-        short_line: (s.tcr.0 as u16) < s.cr.0 as u16 + 4,
-        layer_order: layer_order(s.ws, r.overlay, r.blocks),
-        cursor_shape: cursor_shape(r.display.fc, r.form, s.fx),
-        row_number: s.lf.count().0 as u32 <= n,
-        buffer_size: buffer_length != width,
-    };
-    checks.answer()
+    if grey_mode(r.grey, r.overlay, s.fx) {
+        return Answer::Refused(Refusal::GreyMode);
+    }
+    if 8 < s.fx.count().0 {
+        return Answer::Refused(Refusal::CharacterWidth);
+    }
+    if scroll_mode(r.hdot, r.grey, s.fx, s.cr) {
+        return Answer::Refused(Refusal::ScrollMode);
+    }
+    if 640 < width {
+        return Answer::Refused(Refusal::RowWidth);
+    }
+    if odd_lines(s.ws, s.lf) {
+        return Answer::Refused(Refusal::OddLines);
+    }
+    if (s.tcr.0 as u16) < s.cr.0 as u16 + 4 {
+        return Answer::Refused(Refusal::ShortLine);
+    }
+    if layer_order(s.ws, r.overlay, r.blocks) {
+        return Answer::Refused(Refusal::LayerOrder);
+    }
+    if cursor_shape(r.display.fc, r.form, s.fx) {
+        return Answer::Refused(Refusal::CursorShape);
+    }
+    if s.lf.count().0 as u32 <= n {
+        return Answer::Refused(Refusal::RowNumber);
+    }
+    if buffer_length != width {
+        return Answer::Refused(Refusal::BufferSize);
+    }
+    Answer::Accepted
 }

@@ -16,35 +16,66 @@ wide : (c : tie.After-row-width) → c .row-width .result ≡ width (c .before .
 unfolding width
 wide c = rw (c .row-width .ensures, c .before .dots-per-column .ensures)
 
+-- where the function starts, from each test on
+abbrev start1 : tie.Else1 → tie.Start
+start1 c = c .before .before .before .before .before
+
+abbrev start2 : tie.Else2 → tie.Start
+start2 c = start1 (c .before .before .before)
+
+abbrev start3 : tie.Else3 → tie.Start
+start3 c = start2 (c .before .before)
+
+abbrev start4 : tie.Else4 → tie.Start
+start4 c = start3 (c .before)
+
+abbrev start5 : tie.Else5 → tie.Start
+start5 c = start4 (c .before .before)
+
+abbrev start6 : tie.Else6 → tie.Start
+start6 c = start5 (c .before .before .before)
+
+abbrev start7 : tie.Else7 → tie.Start
+start7 c = start6 (c .before .before)
+
+abbrev start8 : tie.Else8 → tie.Start
+start8 c = start7 (c .before .before)
+
+abbrev start9 : tie.Else9 → tie.Start
+start9 c = start8 (c .before .before .before)
+
+abbrev start10 : tie.Else10 → tie.Start
+start10 c = start9 (c .before)
+
 -- each test where it did not apply
-past-9 : (c : tie.Else1) → let a = c .before .before .before .before .before .args in greyMode (a .r .grey) (a .r .overlay) (a .r .system .fx) ≡ false
+past-9 : (c : tie.Else1) → let a = start1 c .args in greyMode (a .r .grey) (a .r .overlay) (a .r .system .fx) ≡ false
 past-9 c = sym (c .before .grey-mode .ensures) ∙ c .if1 .left
 
-past-10 : (c : tie.Else2) → let a = c .before .before .before .before .before .before .before .before .args in (8 <? ⁅ a .r .system .fx ⁆) ≡ false
+past-10 : (c : tie.Else2) → let a = start2 c .args in (8 <? ⁅ a .r .system .fx ⁆) ≡ false
 past-10 c = le-ltb 8 _ (rw (c .before .before .count .ensures) at (c .if2 .left))
 
-past-18 : (c : tie.Else3) → let a = c .before .before .before .before .before .before .before .before .before .before .args in scrollMode (a .r .hdot) (a .r .grey) (a .r .system .fx) (a .r .system .cr) ≡ false
+past-18 : (c : tie.Else3) → let a = start3 c .args in scrollMode (a .r .hdot) (a .r .grey) (a .r .system .fx) (a .r .system .cr) ≡ false
 past-18 c = sym (c .before .scroll-mode .ensures) ∙ c .if3 .left
 
-past-11 : (c : tie.Else4) → let a = c .before .before .before .before .before .before .before .before .before .before .before .args in (640 <? width (a .r)) ≡ false
+past-11 : (c : tie.Else4) → let a = start4 c .args in (640 <? width (a .r)) ≡ false
 past-11 c = le-ltb 640 _ (rw (wide (c .before .before .before .before .before .before .before .before)) at (c .if4 .left))
 
-past-12 : (c : tie.Else5) → let a = c .before .before .before .before .before .before .before .before .before .before .before .before .before .args in oddLines (a .r .system .ws) (a .r .system .lf) ≡ false
+past-12 : (c : tie.Else5) → let a = start5 c .args in oddLines (a .r .system .ws) (a .r .system .lf) ≡ false
 past-12 c = sym (c .before .odd-lines .ensures) ∙ c .if5 .left
 
-past-13 : (c : tie.Else6) → let a = c .before .before .before .before .before .before .before .before .before .before .before .before .before .before .before .before .args in (a .r .system .tcr .0 <? a .r .system .cr .0 + 4) ≡ false
+past-13 : (c : tie.Else6) → let a = start6 c .args in (a .r .system .tcr .0 <? a .r .system .cr .0 + 4) ≡ false
 past-13 c = le-ltb _ _ (c .if6 .left)
 
-past-14 : (c : tie.Else7) → let a = c .before .before .before .before .before .before .before .before .before .before .before .before .before .before .before .before .before .before .args in layerOrder (a .r .system .ws) (a .r .overlay) (a .r .blocks) ≡ false
+past-14 : (c : tie.Else7) → let a = start7 c .args in layerOrder (a .r .system .ws) (a .r .overlay) (a .r .blocks) ≡ false
 past-14 c = sym (c .before .layer-order .ensures) ∙ c .if7 .left
 
-past-15 : (c : tie.Else8) → let a = c .before .before .before .before .before .before .before .before .before .before .before .before .before .before .before .before .before .before .before .before .args in cursorShape (a .r .display .fc) (a .r .form) (a .r .system .fx) ≡ false
+past-15 : (c : tie.Else8) → let a = start8 c .args in cursorShape (a .r .display .fc) (a .r .form) (a .r .system .fx) ≡ false
 past-15 c = sym (c .before .cursor-shape .ensures) ∙ c .if8 .left
 
-past-16 : (c : tie.Else9) → let a = c .before .before .before .before .before .before .before .before .before .before .before .before .before .before .before .before .before .before .before .before .before .before .before .args in (⁅ a .r .system .lf ⁆ ≤? a .n) ≡ false
+past-16 : (c : tie.Else9) → let a = start9 c .args in (⁅ a .r .system .lf ⁆ ≤? a .n) ≡ false
 past-16 c = lt-leb _ _ (rw (c .before .before .count2 .ensures) at (c .if9 .left))
 
-past-17 : (c : tie.Else10) → let a = c .before .before .before .before .before .before .before .before .before .before .before .before .before .before .before .before .before .before .before .before .before .before .before .before .args in (a .buffer-length =? width (a .r)) ≡ true
+past-17 : (c : tie.Else10) → let a = start10 c .args in (a .buffer-length =? width (a .r)) ≡ true
 past-17 c = eq-eqb _ _ (rw (wide (c .before .before .before .before .before .before .before .before .before .before .before .before .before .before .before .before .before .before .before .before .before)) at (c .if10 .left))
 
 pub row-answer-spec : {M : Type 1} → statement M

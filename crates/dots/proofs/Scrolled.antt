@@ -2,7 +2,7 @@
 use Prim.Native.Nat.{ℕ, zero, suc, _+_, _-_, _*_, _/_, _%_, _^_, _<_, _≤_}
 use mathlib.Core.List.{List}
 use mathlib.Core.Logic.{⊎-elim}
-use mathlib.Core.Path.{_≡_, refl, sym, ap, _∙_, subst}
+use mathlib.Core.Path.{_≡_, sym, ap, _∙_}
 use native.Mathlib.Nat.{add-zero, one-mul, mod-lt, div-add-mod', div-lt-iff-lt-mul, mul-le-mul-right}
 use native.Mathlib.Omega.{arith}
 use lib.Arith.{digits-div, digits-mod}
@@ -10,7 +10,6 @@ use lib.ListN.{length, getD, take}
 use lib.Seq.{getD-take}
 use lib.Pow.{shr-shr, high, low, field, mod-mod-pow}
 use borrow.Author.Tests.{ne-eqb}
-use Rattle.choice.specs.Choice.{if_then_else_, _=?_}
 use Rattle.choice.proofs.Cases.{lt-or-le}
 use Rattle.dots.specs.Tables.{table}
 use Rattle.dots.specs.Bytes.{dotOf}

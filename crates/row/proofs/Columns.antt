@@ -1,6 +1,5 @@
 -- How wide a row is that can be composed. It knows no code.
 use Prim.Native.Nat.{ℕ, zero, suc, _+_, _-_, _*_, _/_, _<_, _≤_}
-use mathlib.Core.Bool.{false}
 use mathlib.Core.Path.{_≡_, sym, ap, subst}
 use native.Mathlib.Nat.{mul-one, mul-le-mul-left}
 use native.Mathlib.Omega.{arith}
@@ -52,13 +51,12 @@ unfolding shownColumns
 one-less n cr = rw (ne-eqb (suc n) 0 (not-zero n))
 
 -- scrolled, a row has no dot that it lacks without scrolling
-pub in-unscrolled : (hdot : ℕ) (cr : Code) (p x : ℕ) → hdot < p → x < shownColumns hdot cr * p → x + hdot < ⁅ cr ⁆ * p
+pub in-unscrolled : (hdot : ℕ) (cr : Code) (p : ℕ) → hdot < p → shownColumns hdot cr * p + hdot ≤ ⁅ cr ⁆ * p
 unfolding shownColumns
-in-unscrolled zero cr p x h l = omega arith
-in-unscrolled (suc n) cr p x h l =
-    let less : x < (⁅ cr ⁆ - 1) * p = rw (one-less n cr) at l in
+in-unscrolled zero cr p h = omega arith
+in-unscrolled (suc n) cr p h =
     let e : ⁅ cr ⁆ - 1 + 1 ≡ ⁅ cr ⁆ = omega arith in
-    omega (arith, column-next (⁅ cr ⁆ - 1) p, ap (λ (k : ℕ). k * p) e)
+    rw (one-less n cr) (omega (arith, column-next (⁅ cr ⁆ - 1) p, ap (λ (k : ℕ). k * p) e))
 
 pub columns-shown : (hdot : ℕ) (cr : Code) → shownColumns hdot cr ≤ ⁅ cr ⁆
 unfolding shownColumns

@@ -1,27 +1,27 @@
 -- The dots of the bytes that the stages leave are the dots that the definition gives. It knows no code.
-use Prim.Native.Nat.{ℕ, zero, suc, _+_, _-_, _*_, _/_, _%_, _^_, _<_, _≤_}
-use mathlib.Core.Bool.{Bool, true, false, not, _&&_}
+use Prim.Native.Nat.{ℕ, _+_, _-_, _*_, _/_, _%_, _<_}
+use mathlib.Core.Bool.{Bool, false, not, _&&_}
 use mathlib.Core.List.{List}
-use mathlib.Core.Path.{_≡_, sym, ap, _∙_, subst}
-use native.Mathlib.Nat.{mul-one, mul-le-mul-left, mod-lt, mod-eq-of-lt, div-eq-of-lt, div-lt-iff-lt-mul}
+use mathlib.Core.Path.{_≡_, sym, ap, _∙_}
+use native.Mathlib.Nat.{mod-lt, mod-eq-of-lt, div-eq-of-lt, div-lt-iff-lt-mul}
 use native.Mathlib.Omega.{arith}
 use lib.ListN.{getD}
 use lib.Pow.{pow-pos}
 use Rattle.registers.specs.declared.Registers.{Registers}
-use Rattle.choice.specs.Choice.{if_then_else_, _=?_}
+use Rattle.choice.specs.Choice.{if_then_else_}
 use Rattle.registers.specs.Counts.{⁅_⁆}
 use Rattle.dots.specs.Tables.{table}
 use Rattle.dots.specs.Mixing.{mix}
 use Rattle.dots.specs.Bytes.{bitsPerDot, dotOf}
 use Rattle.dots.specs.MixedBytes.{mixByte, thirdMix}
-use Rattle.dots.specs.Expanded.{expandedDot, DotsFit}
+use Rattle.dots.specs.Expanded.{expandedDot}
 use Rattle.dots.proofs.Tables.{same-table, element}
 use Rattle.dots.proofs.MixedBytes.{mix-dots, mix-steps}
 use Rattle.row.specs.declared.LayerRow.{LayerRow}
 use Rattle.row.specs.declared.LayerRow.the-variants.{Nothing}
 use Rattle.row.specs.Layers.{threeLayers, layer1, layer2, layer3}
 use Rattle.row.specs.Cursor.{hasCursor, inverted}
-use Rattle.row.specs.Dots.{dotsPerColumn, perColumn, shownColumns, width, layerByte, columnDot, shownDot, unscrolledDot, dot, dots}
+use Rattle.row.specs.Dots.{perColumn, shownColumns, width, layerByte, columnDot, shownDot, unscrolledDot, dot, dots}
 use Rattle.row.specs.Stages.{cursorByte, ColumnDots, Composable}
 use Rattle.row.proofs.Columns.{columns-fit, scroll-fits, in-unscrolled}
 use Rattle.row.proofs.CursorBytes.{cursor-dots}
@@ -98,7 +98,7 @@ module _ (r : Registers) (memory font : List ℕ) (frame n : ℕ) where
       let pos = columns-fit r h .0 in
       e ∙ ap (λ (k : ℕ). table (k * p) (λ x. expandedDot (bitsPerDot (r .grey)) p line (x + r .hdot))) q
       ∙ same-table (shownColumns (r .hdot) (r .system .cr) * p) _ _
-      (λ x l. all ((x + r .hdot) / p) ((x + r .hdot) % p) (div-lt-iff-lt-mul pos .1 (in-unscrolled (r .hdot) (r .system .cr) p x (scroll-fits r h .0) l)) (mod-lt (x + r .hdot) pos))
+      (λ x l. all ((x + r .hdot) / p) ((x + r .hdot) % p) (div-lt-iff-lt-mul pos .1 (omega (arith, in-unscrolled (r .hdot) (r .system .cr) p (scroll-fits r h .0)))) (mod-lt (x + r .hdot) pos))
 
 -- the whole row: shown, or with D = 0 or asleep
 pub row-when : (r : Registers) (memory font : List ℕ) (frame n : ℕ) {t : Bool} → (r .display .on && not (r .asleep)) ≡ t

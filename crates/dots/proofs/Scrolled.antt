@@ -3,7 +3,7 @@ use Prim.Native.Nat.{ℕ, zero, suc, _+_, _-_, _*_, _/_, _%_, _^_, _<_, _≤_}
 use mathlib.Core.List.{List}
 use mathlib.Core.Logic.{⊎-elim}
 use mathlib.Core.Path.{_≡_, sym, ap, _∙_}
-use native.Mathlib.Nat.{add-zero, one-mul, mod-lt, div-add-mod', div-lt-iff-lt-mul, mul-le-mul-right}
+use native.Mathlib.Nat.{suc-ne-zero, add-zero, one-mul, mod-lt, div-add-mod', div-lt-iff-lt-mul, mul-le-mul-right}
 use native.Mathlib.Omega.{arith}
 use lib.Arith.{digits-div, digits-mod}
 use lib.ListN.{length, getD, take}
@@ -40,9 +40,9 @@ module _ (p n a b : ℕ) (np : n < p) (p8 : p ≤ 8) where
       low-bits (pair / 2 ^ (p - n)) j h ∙ bit (pair / 2 ^ (p - n)) j ∙ ap (λ (x : ℕ). x % 2) (shr-shr pair (p - n) (8 - (j + 1)))
 
   -- the dots of the column itself
-  pub first-column : (j : ℕ) → j + n < p → dotOf 1 (scrolledByte p n a b) j ≡ dotOf 1 a (j + n)
+  own-dot : (j : ℕ) → j + n < p → dotOf 1 (scrolledByte p n a b) j ≡ dotOf 1 a (j + n)
   unfolding pair
-  first-column j h =
+  own-dot j h =
       let t : ℕ = p - (j + n + 1) in
       let e : (p - n) + (8 - (j + 1)) ≡ 8 + t = omega arith in
       let f : (8 - p) + t ≡ 8 - (j + n + 1) = omega arith in
@@ -51,27 +51,18 @@ module _ (p n a b : ℕ) (np : n < p) (p8 : p ≤ 8) where
       ∙ ap (λ (x : ℕ). x % 2) (shr-shr a (8 - p) t) ∙ ap (λ (x : ℕ). a / 2 ^ x % 2) f ∙ sym (bit a (j + n))
 
   -- and those of the next one
-  pub next-column : (j : ℕ) → j < p → p ≤ j + n → dotOf 1 (scrolledByte p n a b) j ≡ dotOf 1 b (j + n - p)
+  next-dot : (j : ℕ) → j < p → p ≤ j + n → dotOf 1 (scrolledByte p n a b) j ≡ dotOf 1 b (j + n - p)
   unfolding pair
-  next-column j h g =
+  next-dot j h g =
       let i : ℕ = j + n - p in
       let e : (p - n) + (8 - (j + 1)) ≡ 8 - (i + 1) = omega arith in
       let l : i < 8 = omega arith in
       shifted j (omega arith) ∙ ap (λ (x : ℕ). pair / 2 ^ x % 2) e ∙ sym (bit pair i) ∙ sym (low-bits pair i l)
       ∙ ap (λ (x : ℕ). dotOf 1 x i) (low (a / 2 ^ (8 - p)) 8 (mod-lt b (omega arith))) ∙ low-bits b i l
 
--- dot x + n stands in x's column, or in the next
-in-column : (p x n : ℕ) → x % p + n < p → ((x + n) / p ≡ x / p) × ((x + n) % p ≡ x % p + n)
-in-column p x n h =
-    let e : x + n ≡ x / p * p + (x % p + n) = omega (arith, div-add-mod' x p) in
-    (ap (λ (y : ℕ). y / p) e ∙ digits-div (x / p) h, ap (λ (y : ℕ). y % p) e ∙ digits-mod (x / p) h)
-
-in-next : (p x n : ℕ) → n < p → p ≤ x % p + n → ((x + n) / p ≡ x / p + 1) × ((x + n) % p ≡ x % p + n - p)
-in-next p x n np h =
-    let r : x % p < p = mod-lt x (omega arith) in
-    let l : x % p + n - p < p = omega arith in
-    let e : x + n ≡ (x / p + 1) * p + (x % p + n - p) = omega (arith, div-add-mod' x p, column-next (x / p) p) in
-    (ap (λ (y : ℕ). y / p) e ∙ digits-div (x / p + 1) l, ap (λ (y : ℕ). y % p) e ∙ digits-mod (x / p + 1) l)
+-- a dot of a line by its column
+column-of : (p c d x : ℕ) → x ≡ c * p + d → d < p → (x / p ≡ c) × (x % p ≡ d)
+column-of p c d x e h = (ap (λ (y : ℕ). y / p) e ∙ digits-div c h, ap (λ (y : ℕ). y % p) e ∙ digits-mod c h)
 
 -- dot x of a scrolled line, in any of its columns
 scrolled-dot : (bits p n : ℕ) (line : List ℕ) (x : ℕ) → n < p → p ≤ 8 → ((n ≡ 0 → ⊥) → bits ≡ 1) → x < length line * p
@@ -94,7 +85,7 @@ scrolled-dot bits p (suc m) line x np p8 one h =
     byte k = scrolledByte p n (getD line k 0) (getD line (k + 1) 0)
 
     moved : n ≡ 0 → ⊥
-    moved q = let z : suc m ≡ 0 = q in omega arith
+    moved = suc-ne-zero m
 
     pos : 0 < p
     pos = omega arith
@@ -102,11 +93,18 @@ scrolled-dot bits p (suc m) line x np p8 one h =
     inside : c < length line
     inside = div-lt-iff-lt-mul pos .1 h
 
+    whole : c * p + j ≡ x
+    whole = div-add-mod' x p
+
+    -- dot x + n stands in x's column, or in the next
     within : j + n < p → dotOf 1 (byte c) j ≡ dotOf 1 (getD line ((x + n) / p) 0) ((x + n) % p)
-    within l = let e = in-column p x n l in first-column p n _ _ np p8 j l ∙ rw (e .0, e .1)
+    within l = let e = column-of p c (j + n) (x + n) (omega (arith, whole)) l in own-dot p n _ _ np p8 j l ∙ rw (e .0, e .1)
 
     beyond : p ≤ j + n → dotOf 1 (byte c) j ≡ dotOf 1 (getD line ((x + n) / p) 0) ((x + n) % p)
-    beyond g = let e = in-next p x n np g in next-column p n _ _ np p8 j (mod-lt x pos) g ∙ rw (e .0, e .1)
+    beyond g =
+        let l : j < p = mod-lt x pos in
+        let e = column-of p (c + 1) (j + n - p) (x + n) (omega (arith, whole, column-next c p)) (omega arith) in
+        next-dot p n _ _ np p8 j l g ∙ rw (e .0, e .1)
 
 -- the columns shown of a scrolled line
 pub scrolled-columns : (bits p n : ℕ) (line : List ℕ) (shown : ℕ) {moved out : List ℕ} {m : ℕ} → n < p → p ≤ 8 → ((n ≡ 0 → ⊥) → bits ≡ 1) → shown ≤ length line

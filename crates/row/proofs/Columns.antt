@@ -1,7 +1,7 @@
 -- How wide a row is that can be composed. It knows no code.
 use Prim.Native.Nat.{ℕ, zero, suc, _+_, _-_, _*_, _/_, _<_, _≤_}
 use mathlib.Core.Path.{_≡_, sym, ap, subst}
-use native.Mathlib.Nat.{mul-one, mul-le-mul-left}
+use native.Mathlib.Nat.{suc-ne-zero, mul-one, mul-le-mul-left}
 use native.Mathlib.Omega.{arith}
 use borrow.Author.Tests.{ne-eqb}
 use Rattle.registers.specs.declared.Code.{Code}
@@ -34,9 +34,6 @@ columns-fit r h = (
     go (suc (suc zero)) l = (omega arith, omega arith)
     go (suc (suc (suc g))) l = absurd (omega arith)
 
-not-zero : (n : ℕ) → suc n ≡ 0 → ⊥
-not-zero n q = let e : suc n ≡ 0 = q in omega arith
-
 -- a row is scrolled by less than a column, and at one bit a dot
 pub scroll-fits : (r : Registers) → Composable r → (r .hdot < perColumn r) × ((r .hdot ≡ 0 → ⊥) → r .grey ≡ 0)
 unfolding dotsPerColumn
@@ -44,11 +41,11 @@ scroll-fits r h = (go (r .hdot) (h .scrolls), λ moved. h .scrolls moved .0)
   where
     go : (n : ℕ) → ((n ≡ 0 → ⊥) → (r .grey ≡ 0) × (n < ⁅ r .system .fx ⁆) × (1 < ⁅ r .system .cr ⁆)) → n < perColumn r
     go zero f = columns-fit r h .0
-    go (suc n) f = let z = f (not-zero n) in rw (z .0) (z .1)
+    go (suc n) f = let z = f (suc-ne-zero n) in rw (z .0) (z .1)
 
 one-less : (n : ℕ) (cr : Code) → shownColumns (suc n) cr ≡ ⁅ cr ⁆ - 1
 unfolding shownColumns
-one-less n cr = rw (ne-eqb (suc n) 0 (not-zero n))
+one-less n cr = rw (ne-eqb (suc n) 0 (suc-ne-zero n))
 
 -- scrolled, a row has no dot that it lacks without scrolling
 pub in-unscrolled : (hdot : ℕ) (cr : Code) (p : ℕ) → hdot < p → shownColumns hdot cr * p + hdot ≤ ⁅ cr ⁆ * p
@@ -78,5 +75,5 @@ columns-in-row r h = go (r .hdot) (scroll-fits r h .0) (λ moved. h .scrolls mov
     go zero l f = subst (λ (x : ℕ). x ≤ ⁅ cr ⁆ * p) (mul-one ⁅ cr ⁆) (mul-le-mul-left ⁅ cr ⁆ l)
     go (suc n) l f =
         let two : 2 ≤ p = omega arith in
-        let wide = f (not-zero n) in
+        let wide = f (suc-ne-zero n) in
         rw (one-less n cr) (omega (arith, mul-le-mul-left (⁅ cr ⁆ - 1) two))

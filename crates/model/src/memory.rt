@@ -5,6 +5,7 @@ use crate::WriteRun;
 use crate::Written;
 use registers::Answer;
 use registers::Direction;
+use registers::MEMORY_SIZE;
 use registers::ReadAnswer;
 use registers::Refusal;
 ghost use Prim.Native.Nat.{ℕ, _+_, _%_, min};
@@ -18,7 +19,10 @@ ghost use Rattle.registers.specs.Sizes.{memorySize};
 ghost use Rattle.model.specs.Machine.{machine, writtenOutcome, readOutcome};
 ghost use Rattle.model.specs.Bus.{served, writeMemory, readMemory};
 ghost use Rattle.model.specs.WriteRun.{runOutcome, writeRunOutcome};
-ghost use Rattle.model.specs.Strides.{storedOutcome, storedFrom};
+ghost use Rattle.model.specs.Strides.{storedOutcome, storedFrom, InRoom, Fitting};
+
+// The last address of memory.
+const LAST_ADDRESS: u16 = (MEMORY_SIZE - 1) as u16;
 
 // The address behind bytes that were stored, and how many they are.
 struct Stored {
@@ -66,21 +70,42 @@ fn store_adjacent(memory: &mut [u8], bytes: &[u8], address: u16) -> Stored
     }
 }
 
-// Bytes stored a stride apart, up to the first address past memory's end. The loop carries the address alone: a controller by value costs
-// more than a store.
+// How many accesses stay in so much room, each a step further, at most all.
+fn in_room(room: u16, step: u16, all: usize) -> usize
+    ensures { λ r. ⌜ InRoom room step all r ⌝ }
+{
+    if step == 0 {
+        all
+    } else {
+        smaller(all, (room / step) as usize + 1)
+    }
+}
+
+// How many accesses a stride apart come before the first past memory's end, at most all. Memory is the lower half of all addresses, so no
+// stride leads over the upper: one below 8000h moves forward, the others back.
+fn fitting(address: u16, stride: u16, all: usize) -> usize
+    ensures { λ r. ⌜ Fitting address stride all r ⌝ }
+{
+    if LAST_ADDRESS < address {
+        return 0;
+    }
+    if stride < 32768 {
+        return in_room(LAST_ADDRESS - address, stride, all);
+    }
+    in_room(address, std::num::wrapping_sub_u16(0, stride), all)
+}
+
+// Bytes stored a stride apart, up to the first address past memory's end. How many is found first, so that the loop tests nothing else; and
+// it carries the address alone: a controller by value costs more than a store.
 fn store_strided(memory: &mut [u8], bytes: &[u8], address: u16, stride: u16) -> Stored
+    requires { ⌜ length (now memory) ≡ memorySize ⌝ }
     ensures { λ r. ⌜ storedOutcome r (now (memory .exit)) ≡ storedFrom stride 0 address (now (memory .entry)) (now (bytes .entry)) ⌝ }
 {
+    let count = fitting(address, stride, bytes.len());
     let mut next = address;
     let mut i: usize = 0;
-    while i < bytes.len() {
+    while i < count {
         let at = next as usize;
-        if memory.len() <= at {
-            return Stored {
-                address: next,
-                length: i,
-            };
-        }
         memory[at] = bytes[i];
         i += 1;
         next = std::num::wrapping_add_u16(next, stride);

@@ -25,7 +25,7 @@ pub store-adjacent-spec : {M : Type 1} → statement M
 store-adjacent-spec =
     tie.close
     (tie.spec
-    (λ c. let a = c .before .before .before .args in none-stored 1 0 (a .address) (a .memory .now) (a .bytes .now) (c .if1 .taken))
+    (λ c. let a = c .before .before .before .args in none-stored 1 0 (a .address) (a .memory .now) (a .bytes .now) (λ h. c .if1 .taken))
     (λ c. search needs)
     (λ c κs. search needs)
     (λ c. search needs)

@@ -2,7 +2,7 @@
 use Prim.Native.Nat.{ℕ, zero, suc, _+_, _-_, _*_, _/_, _%_, _^_, _<_, _≤_}
 use mathlib.Core.List.{List}
 use mathlib.Core.Logic.{⊎-elim}
-use mathlib.Core.Path.{_≡_, sym, ap, _∙_}
+use mathlib.Core.Path.{_≡_, refl, sym, ap, _∙_}
 use native.Mathlib.Nat.{suc-ne-zero, add-zero, one-mul, mod-lt, div-add-mod', div-lt-iff-lt-mul, mul-le-mul-right}
 use native.Mathlib.Omega.{arith}
 use lib.Arith.{digits-div, digits-mod}
@@ -14,7 +14,7 @@ use Rattle.choice.proofs.Cases.{lt-or-le}
 use Rattle.dots.specs.Tables.{table}
 use Rattle.dots.specs.Bytes.{dotOf}
 use Rattle.dots.specs.Scrolled.{scrolledByte, scrolled}
-use Rattle.dots.specs.Expanded.{expandedDot}
+use Rattle.dots.specs.Expanded.{expandedDot, DotsFit}
 use Rattle.dots.proofs.Tables.{getD-table, same-table, column-next}
 
 -- dot j at one bit is bit 7 - j
@@ -59,6 +59,13 @@ module _ (p n a b : ℕ) (np : n < p) (p8 : p ≤ 8) where
       let l : i < 8 = omega arith in
       shifted j (omega arith) ∙ ap (λ (x : ℕ). pair / 2 ^ x % 2) e ∙ sym (bit pair i) ∙ sym (low-bits pair i l)
       ∙ ap (λ (x : ℕ). dotOf 1 x i) (low (a / 2 ^ (8 - p)) 8 (mod-lt b (omega arith))) ∙ low-bits b i l
+
+-- a byte gives eight dots at most
+pub at-most-8 : {grey n : ℕ} → DotsFit grey n → n ≤ 8
+at-most-8 {grey = zero} h = h .one refl
+at-most-8 {grey = suc zero} h = omega (arith, h .two refl)
+at-most-8 {grey = suc (suc zero)} h = omega (arith, h .four refl)
+at-most-8 {grey = suc (suc (suc g))} h = absurd (omega (arith, h .code))
 
 -- a dot of a line by its column
 column-of : (p c d x : ℕ) → x ≡ c * p + d → d < p → (x / p ≡ c) × (x % p ≡ d)

@@ -5,7 +5,7 @@ use lib.ListN.{length, getD}
 use Rattle.choice.specs.Choice.{if_then_else_, _=?_}
 use Rattle.dots.specs.Tables.{table}
 
--- the eight dots from dot n of a column of bytes a, b on: the first perColumn of a, then those of b
+-- the eight dots from dot n of a column on: the first perColumn of its byte a, then those of the next one's, b. `b % 256` is b, a byte
 unfoldable pub scrolledByte : ℕ → ℕ → ℕ → ℕ → ℕ
 scrolledByte perColumn n a b = (a / 2 ^ (8 - perColumn) * 256 + b % 256) / 2 ^ (perColumn - n) % 256
 

@@ -17,7 +17,7 @@ fn scrolled_byte(per: usize, n: usize, a: u8, b: u8) -> u8
     ((pair >> (per - n)) % 256) as u8
 }
 
-// Scrolled by 0 dots a line stands, in grey too.
+// Scrolled by 0 dots a line stands, in grey too. What comes in at the last column's end is nothing; that column is not shown.
 fn scroll(per: usize, n: usize, line: &mut [u8])
     requires { ⌜ (n < per) × (per ≤ 8) ⌝ }
     ensures { λ _. ⌜ now (line .exit) ≡ scrolled per n (now (line .entry)) ⌝ }
@@ -44,7 +44,7 @@ pub fn expand_scrolled(
     line: &mut [u8],
     out: &mut [u8],
 )
-    requires { ⌜ DotsFit grey per × (n < per) × (per ≤ 8) × ((n ≡ 0 → ⊥) → grey ≡ 0) × (shown ≤ length (now line))
+    requires { ⌜ DotsFit grey per × (n < per) × ((n ≡ 0 → ⊥) → grey ≡ 0) × (shown ≤ length (now line))
         × (length (now out) ≡ shown * per) ⌝ }
     ensures { λ _. ⌜ now (line .exit) ≡ scrolled per n (now (line .entry)) ⌝ }
     ensures { λ _. ⌜ now (out .exit) ≡ table (shown * per) (λ x. expandedDot (bitsPerDot grey) per (now (line .entry)) (x + n)) ⌝ }

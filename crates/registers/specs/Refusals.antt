@@ -1,7 +1,7 @@
 -- Reference, 'Refusals'; 01, 'Refusal numbers', and request #101.
 use Prim.Native.Nat.{ℕ}
 use Rattle.registers.specs.declared.Refusal.{Refusal}
-use Rattle.registers.specs.declared.Refusal.the-variants.{MemorySize, UnknownCommand, NothingWanted, NotAllowed, Asleep, NothingToRead, OutsideMemory, FontSize, GreyMode, CharacterWidth, RowWidth, OddLines, ShortLine, LayerOrder, CursorShape, RowNumber, BufferSize, ScrollMode}
+use Rattle.registers.specs.declared.Refusal.the-variants.{MemorySize, UnknownCommand, NothingWanted, NotAllowed, Asleep, NothingToRead, OutsideMemory, FontSize, GreyMode, CharacterWidth, RowWidth, OddLines, ShortLine, LayerOrder, CursorShape, RowNumber, BufferSize, SmoothScroll}
 use Rattle.registers.specs.declared.Answer.{Answer}
 use Rattle.registers.specs.declared.Answer.the-variants.{Accepted, Refused}
 use Rattle.registers.specs.declared.ReadAnswer.{ReadAnswer}
@@ -43,7 +43,7 @@ number RowNumber = 16
 -- row buffer, a byte a dot, is not exactly the row's width
 number BufferSize = 17
 -- #101: HDOT SCR not 0, and (grey set, HDOT SCR at least [FX], or [C/R] 1)
-number ScrollMode = 18
+number SmoothScroll = 18
 
 -- What is answered: the refusal's number, or 0 where there is none, and the value read, or 0. A refused read gives the value 0.
 pub record Reply : Type 0 where

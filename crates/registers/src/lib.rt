@@ -140,7 +140,7 @@ pub enum Refusal {
     CursorShape,
     RowNumber,
     BufferSize,
-    ScrollMode,
+    SmoothScroll,
 }
 
 // What a write or a row answers.

@@ -25,7 +25,7 @@ impl Refusal {
             Refusal::CursorShape => 15,
             Refusal::RowNumber => 16,
             Refusal::BufferSize => 17,
-            Refusal::ScrollMode => 18,
+            Refusal::SmoothScroll => 18,
         }
     }
 }

@@ -19,7 +19,7 @@ use Rattle.registers.specs.Sizes.{memorySize, fontSize}
 use Rattle.registers.specs.Layout.{field, inLayout}
 use Rattle.registers.proofs.Numbers.{number-not-0}
 use Rattle.row.specs.Dots.{width, dots}
-use Rattle.row.specs.Refusals.{greyMode, scrollMode, oddLines, layerOrder, cursorShape, rowRefusal}
+use Rattle.row.specs.Refusals.{greyMode, smoothScroll, oddLines, layerOrder, cursorShape, rowRefusal}
 use Rattle.row.specs.Rows.{composedOutcome, rowAnswer, rowOutcome}
 use Rattle.row.specs.Stages.{Composable}
 
@@ -38,10 +38,10 @@ grey-graphics r e ne = go (r .grey =? 0) (r .overlay .dm2) (r .overlay .dm1) (ne
     go false true false f g = absurd (subst T g tt)
     go false false d1 f g = absurd (subst T g tt)
 
-scrolled-bits : (r : Registers) → scrollMode (r .hdot) (r .grey) (r .system .fx) (r .system .cr) ≡ false → (r .hdot ≡ 0 → ⊥)
+scroll-passed : (r : Registers) → smoothScroll (r .hdot) (r .grey) (r .system .fx) (r .system .cr) ≡ false → (r .hdot ≡ 0 → ⊥)
     → (r .grey ≡ 0) × (r .hdot < ⁅ r .system .fx ⁆) × (1 < ⁅ r .system .cr ⁆)
-unfolding scrollMode
-scrolled-bits r e ne = go (r .hdot =? 0) (r .grey =? 0) (⁅ r .system .fx ⁆ ≤? r .hdot) (⁅ r .system .cr ⁆ =? 1) (ne-eqb (r .hdot) 0 ne)
+unfolding smoothScroll
+scroll-passed r e ne = go (r .hdot =? 0) (r .grey =? 0) (⁅ r .system .fx ⁆ ≤? r .hdot) (⁅ r .system .cr ⁆ =? 1) (ne-eqb (r .hdot) 0 ne)
     (eqb-true (r .grey) 0) (leb-false ⁅ r .system .fx ⁆ (r .hdot)) (λ c. let ne = eqb-false ⁅ r .system .cr ⁆ 1 c in omega arith) e
   where
     go : (z g f c : Bool) → z ≡ false → (g ≡ true → r .grey ≡ 0) → (f ≡ false → r .hdot < ⁅ r .system .fx ⁆) → (c ≡ false → 1 < ⁅ r .system .cr ⁆)
@@ -67,7 +67,7 @@ record Passed (r : Registers) (memoryLength fontLength n bufferLength : ℕ) : T
   font-size : not (fontLength =? fontSize) ≡ false
   grey : greyMode (r .grey) (r .overlay) (r .system .fx) ≡ false
   narrow : (8 <? ⁅ r .system .fx ⁆) ≡ false
-  scrolls : scrollMode (r .hdot) (r .grey) (r .system .fx) (r .system .cr) ≡ false
+  scrolls : smoothScroll (r .hdot) (r .grey) (r .system .fx) (r .system .cr) ≡ false
   fits : (640 <? width r) ≡ false
   even : oddLines (r .system .ws) (r .system .lf) ≡ false
   long : (r .system .tcr .0 <? r .system .cr .0 + 4) ≡ false
@@ -83,7 +83,7 @@ passes r memoryLength fontLength n bufferLength e =
     let p8 = passed (not (fontLength =? fontSize)) 7 _ (p1 .1) in
     let p9 = passed (greyMode (r .grey) (r .overlay) (r .system .fx)) 8 _ (p8 .1) in
     let p10 = passed (8 <? ⁅ r .system .fx ⁆) 9 _ (p9 .1) in
-    let p18 = passed (scrollMode (r .hdot) (r .grey) (r .system .fx) (r .system .cr)) 17 _ (p10 .1) in
+    let p18 = passed (smoothScroll (r .hdot) (r .grey) (r .system .fx) (r .system .cr)) 17 _ (p10 .1) in
     let p11 = passed (640 <? width r) 10 _ (p18 .1) in
     let p12 = passed (oddLines (r .system .ws) (r .system .lf)) 11 _ (p11 .1) in
     let p13 = passed (r .system .tcr .0 <? r .system .cr .0 + 4) 12 _ (p12 .1) in
@@ -121,7 +121,7 @@ accepted r code memoryLength fontLength n bufferLength e =
         code = code;
         narrow = ltb-false 8 ⁅ r .system .fx ⁆ (p .narrow);
         graphics = grey-graphics r (p .grey);
-        scrolls = scrolled-bits r (p .scrolls);
+        scrolls = scroll-passed r (p .scrolls);
       };
     }
 

@@ -15,11 +15,10 @@ use Rattle.row.specs.Dots.{dotsPerColumn, perColumn, shownColumns, width
 use Rattle.row.specs.Stages.{Composable}
 
 -- the dots of a column are what a byte gives
-pub columns-fit : (r : Registers) → Composable r → (0 < perColumn r) × (perColumn r ≤ 8) × DotsFit (r .grey) (perColumn r)
+pub columns-fit : (r : Registers) → Composable r → (0 < perColumn r) × DotsFit (r .grey) (perColumn r)
 unfolding dotsPerColumn
 columns-fit r h = (
-  go (r .grey) (h .code) .0,
-  go (r .grey) (h .code) .1,
+  go (r .grey) (h .code),
   record {
     code = h .code;
     one = λ e. subst (λ (g : ℕ). (if g =? 0 then ⁅ r .system .fx ⁆ else 8 / bitsPerDot g) ≤ 8) (sym e) (h .narrow);
@@ -28,10 +27,10 @@ columns-fit r h = (
   },
 )
   where
-    go : (g : ℕ) → g < 3 → let n : ℕ = if g =? 0 then ⁅ r .system .fx ⁆ else 8 / bitsPerDot g in (0 < n) × (n ≤ 8)
-    go zero l = (omega arith, h .narrow)
-    go (suc zero) l = (omega arith, omega arith)
-    go (suc (suc zero)) l = (omega arith, omega arith)
+    go : (g : ℕ) → g < 3 → 0 < (if g =? 0 then ⁅ r .system .fx ⁆ else 8 / bitsPerDot g)
+    go zero l = omega arith
+    go (suc zero) l = omega arith
+    go (suc (suc zero)) l = omega arith
     go (suc (suc (suc g))) l = absurd (omega arith)
 
 -- a row is scrolled by less than a column, and at one bit a dot

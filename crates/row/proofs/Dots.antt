@@ -21,7 +21,7 @@ use Rattle.row.specs.declared.LayerRow.{LayerRow}
 use Rattle.row.specs.declared.LayerRow.the-variants.{Nothing}
 use Rattle.row.specs.Layers.{threeLayers, layer1, layer2, layer3}
 use Rattle.row.specs.Cursor.{hasCursor, inverted}
-use Rattle.row.specs.Dots.{perColumn, shownColumns, width, layerByte, columnDot, shownDot, unscrolledDot, dot, dots}
+use Rattle.row.specs.Dots.{perColumn, shownColumns, width, layerByte, columnDot, composedDot, unscrolledDot, dot, dots}
 use Rattle.row.specs.Stages.{cursorByte, ColumnDots, Composable}
 use Rattle.row.proofs.Columns.{columns-fit, scroll-fits, in-unscrolled}
 use Rattle.row.proofs.CursorBytes.{cursor-dots}
@@ -64,7 +64,7 @@ module _ (r : Registers) (memory font : List ℕ) (frame n : ℕ) where
       → mixed ≡ table m3 (λ c. mixByte (r .overlay .mx) (r .grey) (getD cursor c 0) (bytes (layer2 r n) c))
       → TwoDots mixed
   two-mixed h q1 q2 q3 e1 e2 e3 c j lc lj =
-      let fit = columns-fit r h .2 in
+      let fit = columns-fit r h .1 in
       ap (λ (b : ℕ). dotOf (bitsPerDot (r .grey)) b j)
       (element _ e3 q3 c lc ∙ ap (λ (x : ℕ). mixByte (r .overlay .mx) (r .grey) x (bytes (layer2 r n) c))
       (element _ e2 q2 c lc ∙ ap (λ (x : ℕ). cursorByte r frame (layer1 r n) c x) (element _ e1 q1 c lc)))
@@ -84,15 +84,15 @@ module _ (r : Registers) (memory font : List ℕ) (frame n : ℕ) where
   unfolding columnDot
   three-layers mixed h q two e c j lc lj =
       ap (λ (b : ℕ). dotOf (bitsPerDot (r .grey)) b j) (element _ e q c lc)
-      ∙ mix-dots (thirdMix (r .overlay .mx)) (r .grey) (perColumn r) _ _ j (columns-fit r h .2) lj
+      ∙ mix-dots (thirdMix (r .overlay .mx)) (r .grey) (perColumn r) _ _ j (columns-fit r h .1) lj
       ∙ ap (λ (d : ℕ). mix (thirdMix (r .overlay .mx)) d (layerDot (layer3 r n) c j) 0) (two c j lc lj)
       ∙ mix-steps (r .overlay .mx) _ _ _
 
   -- the row that such a line expands to, scrolled
   pub expanded : (line : List ℕ) {out : List ℕ} {m : ℕ} → Composable r → m ≡ shownColumns (r .hdot) (r .system .cr) → ColumnDots r memory font frame n line
       → out ≡ table (m * perColumn r) (λ x. expandedDot (bitsPerDot (r .grey)) (perColumn r) line (x + r .hdot))
-      → out ≡ table (width r) (λ x. shownDot r memory font frame n (x + r .hdot))
-  unfolding width expandedDot shownDot
+      → out ≡ table (width r) (λ x. composedDot r memory font frame n (x + r .hdot))
+  unfolding width expandedDot composedDot
   expanded line h q all e =
       let p = perColumn r in
       let pos = columns-fit r h .0 in
@@ -102,7 +102,7 @@ module _ (r : Registers) (memory font : List ℕ) (frame n : ℕ) where
 
 -- the whole row: shown, or with D = 0 or asleep
 pub row-when : (r : Registers) (memory font : List ℕ) (frame n : ℕ) {t : Bool} → (r .display .on && not (r .asleep)) ≡ t
-    → table (width r) (λ x. if t then shownDot r memory font frame n (x + r .hdot) else 0) ≡ dots r memory font frame n
+    → table (width r) (λ x. if t then composedDot r memory font frame n (x + r .hdot) else 0) ≡ dots r memory font frame n
 unfolding dots dot unscrolledDot
 row-when r memory font frame n e =
-    same-table (width r) _ _ (λ x l. sym (ap (λ (b : Bool). if b then shownDot r memory font frame n (x + r .hdot) else 0) e))
+    same-table (width r) _ _ (λ x l. sym (ap (λ (b : Bool). if b then composedDot r memory font frame n (x + r .hdot) else 0) e))

@@ -4,5 +4,5 @@ pub mod BlockBytes
 pub mod CursorBytes
 pub mod Columns
 pub mod Dots
-pub mod Scrolling
 pub mod Accepting
+pub mod Scrolling

@@ -27,7 +27,7 @@ perColumn r = dotsPerColumn (r .grey) (r .system .fx)
 unfoldable pub shownColumns : ℕ → Code → ℕ
 shownColumns hdot cr = if hdot =? 0 then ⁅ cr ⁆ else ⁅ cr ⁆ - 1
 
--- Width: [C/R] x [FX] dots, in grey [C/R] x 8 / bits a dot; #101: scrolled, ([C/R] - 1) x [FX]
+-- Width: [C/R] x [FX] dots, in grey [C/R] x 8 / bits a dot; #101: scrolled, ([C/R] - 1) x [FX] (in grey such a row is refused)
 unfoldable pub width : Registers → ℕ
 width r = shownColumns (r .hdot) (r .system .cr) * perColumn r
 
@@ -46,13 +46,13 @@ columnDot r memory font frame n c j =
     (layerDot (layer3 r n))
 
 -- dot x of row n as 01 composes it without scrolling, with the display on
-unfoldable pub shownDot : Registers → List ℕ → List ℕ → ℕ → ℕ → ℕ → ℕ
-shownDot r memory font frame n x = columnDot r memory font frame n (x / perColumn r) (x % perColumn r)
+unfoldable pub composedDot : Registers → List ℕ → List ℕ → ℕ → ℕ → ℕ → ℕ
+composedDot r memory font frame n x = columnDot r memory font frame n (x / perColumn r) (x % perColumn r)
 
 -- with D = 0 or asleep, all dots are 0
 unfoldable pub unscrolledDot : Registers → List ℕ → List ℕ → ℕ → ℕ → ℕ → ℕ
 unscrolledDot r memory font frame n x =
-    if r .display .on && not (r .asleep) then shownDot r memory font frame n x else 0
+    if r .display .on && not (r .asleep) then composedDot r memory font frame n x else 0
 
 -- #101: scrolled by HDOT SCR's value, dot x is dot x + HDOT SCR of that row
 unfoldable pub dot : Registers → List ℕ → List ℕ → ℕ → ℕ → ℕ → ℕ

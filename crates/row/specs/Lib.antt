@@ -5,4 +5,5 @@ pub mod Cursor
 pub mod Dots
 pub mod Refusals
 pub mod Rows
+pub mod Scrolling
 pub mod Stages

@@ -17,8 +17,8 @@ unfoldable pub greyMode : ℕ → Overlay → Code → Bool
 greyMode grey o fx = not (grey =? 0) && not (dm11 o && ⁅ fx ⁆ =? 8)
 
 -- 18: HDOT SCR not 0, and (grey set, HDOT SCR at least [FX], or [C/R] 1)
-unfoldable pub scrollMode : ℕ → ℕ → Code → Code → Bool
-scrollMode hdot grey fx cr = not (hdot =? 0) && (not (grey =? 0) || ⁅ fx ⁆ ≤? hdot || ⁅ cr ⁆ =? 1)
+unfoldable pub smoothScroll : ℕ → ℕ → Code → Code → Bool
+smoothScroll hdot grey fx cr = not (hdot =? 0) && (not (grey =? 0) || ⁅ fx ⁆ ≤? hdot || ⁅ cr ⁆ =? 1)
 
 -- 12: W/S = 1 and [L/F] odd
 unfoldable pub oddLines : Bool → Code → Bool
@@ -40,7 +40,7 @@ rowRefusal r memoryLength fontLength n bufferLength =
     else if not (fontLength =? fontSize) then 8
     else if greyMode (r .grey) (r .overlay) (s .fx) then 9
     else if 8 <? ⁅ s .fx ⁆ then 10
-    else if scrollMode (r .hdot) (r .grey) (s .fx) (s .cr) then 18
+    else if smoothScroll (r .hdot) (r .grey) (s .fx) (s .cr) then 18
     else if 640 <? width r then 11
     else if oddLines (s .ws) (s .lf) then 12
     else if s .tcr .0 <? s .cr .0 + 4 then 13

@@ -35,8 +35,8 @@ ColumnDots r memory font frame n line =
 abbrev pub Sized : List ℕ → List ℕ → Type 0
 Sized memory font = (length memory ≡ memorySize) × (length font ≡ fontSize)
 
--- what the others leave, as far as a stage needs it: at most 8 dots a column, grey with DM = 11 alone, and scrolling at one bit a dot
--- by less than a column of two or more
+-- what the others leave, as far as a stage needs it: at most 8 dots a column, grey with DM = 11 alone, and scrolling at one bit a dot by less
+-- than a column, with two columns or more
 pub record Composable (r : Registers) : Type 0 where
   pub code : r .grey < 3
   pub narrow : ⁅ r .system .fx ⁆ ≤ 8

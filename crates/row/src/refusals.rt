@@ -13,7 +13,7 @@ ghost use Prim.Native.Nat.{_<_};
 ghost use mathlib.Core.Path.{_≡_};
 ghost use Rattle.registers.specs.Refusals.{reply};
 ghost use Rattle.registers.specs.Sizes.{memorySize, fontSize};
-ghost use Rattle.row.specs.Refusals.{greyMode, scrollMode, oddLines, layerOrder, cursorShape, rowRefusal};
+ghost use Rattle.row.specs.Refusals.{greyMode, smoothScroll, oddLines, layerOrder, cursorShape, rowRefusal};
 
 fn grey_mode(grey: u8, o: Overlay, fx: Code) -> bool
     ensures { λ b. ⌜ b ≡ greyMode grey o fx ⌝ }
@@ -29,8 +29,8 @@ fn grey_mode(grey: u8, o: Overlay, fx: Code) -> bool
     true
 }
 
-fn scroll_mode(hdot: u8, grey: u8, fx: Code, cr: Code) -> bool
-    ensures { λ b. ⌜ b ≡ scrollMode hdot grey fx cr ⌝ }
+fn smooth_scroll(hdot: u8, grey: u8, fx: Code, cr: Code) -> bool
+    ensures { λ b. ⌜ b ≡ smoothScroll hdot grey fx cr ⌝ }
 {
     if hdot == 0 {
         return false;
@@ -83,8 +83,7 @@ fn cursor_shape(fc: u8, f: CursorForm, fx: Code) -> bool
     fx.count().0 < f.crx.count().0
 }
 
-// The answer to row n, with memory and font of their sizes: the first refusal that applies. Each is tested only where none before it does, which
-// costs an accepted row least. An accepted row number fits 16 bits.
+// The answer to row n, with memory and font of their sizes: the first refusal that applies. An accepted row number fits 16 bits.
 pub fn row_answer(r: Registers, n: u32, buffer_length: usize) -> Answer
     requires { ⌜ r .grey < 3 ⌝ }
     ensures { λ a. ⌜ reply a .refusal ≡ rowRefusal r memorySize fontSize n «buffer_length» ⌝ }
@@ -98,8 +97,8 @@ pub fn row_answer(r: Registers, n: u32, buffer_length: usize) -> Answer
     if 8 < s.fx.count().0 {
         return Answer::Refused(Refusal::CharacterWidth);
     }
-    if scroll_mode(r.hdot, r.grey, s.fx, s.cr) {
-        return Answer::Refused(Refusal::ScrollMode);
+    if smooth_scroll(r.hdot, r.grey, s.fx, s.cr) {
+        return Answer::Refused(Refusal::SmoothScroll);
     }
     if 640 < width {
         return Answer::Refused(Refusal::RowWidth);

@@ -26,7 +26,7 @@ ghost use mathlib.Core.Path.{_≡_};
 ghost use lib.ListN.{length};
 ghost use Rattle.registers.specs.Counts.{⁅_⁆};
 ghost use Rattle.dots.specs.Tables.{table};
-ghost use Rattle.row.specs.Dots.{width, shownDot, dots};
+ghost use Rattle.row.specs.Dots.{width, composedDot, dots};
 ghost use Rattle.row.specs.Rows.{frameSize, rowOutcome, composedOutcome};
 ghost use Rattle.row.specs.Stages.{ColumnDots, Sized, Composable};
 
@@ -69,7 +69,7 @@ fn paint(
 )
     requires { ⌜ Sized (now memory) (now font) × Composable r × (length (now line) ≡ ⁅ r .system .cr ⁆)
         × (length (now line) ≤ 256) × (length (now out) ≡ width r) ⌝ }
-    ensures { λ _. ⌜ now (out .exit) ≡ table (width r) (λ x. shownDot r (now (memory .entry)) (now (font .entry)) frame n (x + r .hdot)) ⌝ }
+    ensures { λ _. ⌜ now (out .exit) ≡ table (width r) (λ x. composedDot r (now (memory .entry)) (now (font .entry)) frame n (x + r .hdot)) ⌝ }
 {
     let count = line.len();
     mix_layers(r, memory, font, frame, n, line, &mut out[..count]);

@@ -85,7 +85,7 @@ fn show_frame(
     }
 }
 
-// A frame number to show. 640 dots are enough: a wider frame is refused, with 11 or an earlier number, before 17 is tested.
+// A frame number to show. 640 dots are enough: a wider frame is refused before 17 is tested.
 pub fn show(
     s: Session,
     memory: &[u8],

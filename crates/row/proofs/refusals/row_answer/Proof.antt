@@ -7,7 +7,7 @@ use Prim.Native.Nat.{_+_}
 use Rattle.choice.specs.Choice.{_<?_, _≤?_, _=?_}
 use Rattle.registers.specs.Counts.{⁅_⁆}
 use Rattle.row.specs.Dots.{width}
-use Rattle.row.specs.Refusals.{greyMode, scrollMode, oddLines, layerOrder, cursorShape, rowRefusal}
+use Rattle.row.specs.Refusals.{greyMode, smoothScroll, oddLines, layerOrder, cursorShape, rowRefusal}
 use Rattle.row.proofs.refusals.row_answer.Statement.{statement}
 use Rattle.row.proofs.refusals.row_answer.Tie as tie
 
@@ -54,8 +54,8 @@ past-9 c = sym (c .before .grey-mode .ensures) ∙ c .if1 .left
 past-10 : (c : tie.Else2) → let a = start2 c .args in (8 <? ⁅ a .r .system .fx ⁆) ≡ false
 past-10 c = le-ltb 8 _ (rw (c .before .before .count .ensures) at (c .if2 .left))
 
-past-18 : (c : tie.Else3) → let a = start3 c .args in scrollMode (a .r .hdot) (a .r .grey) (a .r .system .fx) (a .r .system .cr) ≡ false
-past-18 c = sym (c .before .scroll-mode .ensures) ∙ c .if3 .left
+past-18 : (c : tie.Else3) → let a = start3 c .args in smoothScroll (a .r .hdot) (a .r .grey) (a .r .system .fx) (a .r .system .cr) ≡ false
+past-18 c = sym (c .before .smooth-scroll .ensures) ∙ c .if3 .left
 
 past-11 : (c : tie.Else4) → let a = start4 c .args in (640 <? width (a .r)) ≡ false
 past-11 c = le-ltb 640 _ (rw (wide (c .before .before .before .before .before .before .before .before)) at (c .if4 .left))
@@ -90,7 +90,7 @@ row-answer-spec =
     (λ c κs. search needs)
     (λ c. let e1 = c .before .before .before in (simp (past-9 e1, lt-ltb 8 _ (rw (c .before .before .count .ensures) at (c .if2 .taken))), λ e. absurd (omega arith)))
     (λ c κs. search needs)
-    (λ c. let e2 = c .before .before in let e1 = e2 .before .before .before in (simp (past-9 e1, past-10 e2, sym (c .before .scroll-mode .ensures) ∙ c .if3 .taken), λ e. absurd (omega arith)))
+    (λ c. let e2 = c .before .before in let e1 = e2 .before .before .before in (simp (past-9 e1, past-10 e2, sym (c .before .smooth-scroll .ensures) ∙ c .if3 .taken), λ e. absurd (omega arith)))
     (λ c. let e3 = c .before in let e2 = e3 .before .before in let e1 = e2 .before .before .before in (simp (past-9 e1, past-10 e2, past-18 e3, lt-ltb 640 _ (rw (wide (c .before .before .before .before .before .before .before .before)) at (c .if4 .taken))), λ e. absurd (omega arith)))
     (λ c κs. search needs)
     (λ c. let e4 = c .before .before in let e3 = e4 .before in let e2 = e3 .before .before in let e1 = e2 .before .before .before in (simp (past-9 e1, past-10 e2, past-18 e3, past-11 e4, sym (c .before .odd-lines .ensures) ∙ c .if5 .taken), λ e. absurd (omega arith)))

@@ -23,12 +23,10 @@ expand-scrolled-requires c κs =
     let s = m .before .before .before .before .before .before .before in
     let r = s .args .r in
     let shown = k .shown-columns .ensures .0 in
-    let fit = columns-fit r (s .pre .1) in
     let scroll = scroll-fits r (s .pre .1) in
     rw (d .dots-per-column .ensures) (
-      fit .2,
+      columns-fit r (s .pre .1) .1,
       scroll .0,
-      fit .1,
       scroll .1,
       omega (arith, shown, columns-shown (r .hdot) (r .system .cr), m .mix-layers .kept .1 .1 .1 .1 .1 .0, s .pre .2),
       length-front (s .args .out .now) (m .mix-layers .last .1 .1 .1 .1 .1 .1 .0) (length (s .args .line .now)) (m .mix-layers .kept .1 .1 .1 .1 .1 .1 .0) ∙ s .pre .4 ∙ ap (λ (x : ℕ). x * perColumn r) (sym shown),

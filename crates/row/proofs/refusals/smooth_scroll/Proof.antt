@@ -1,12 +1,12 @@
 use borrow.Author.Tests.{eq-eqb, ne-eqb, le-leb, lt-leb}
 use borrow.Author.Needs.{needs}
-use Rattle.row.specs.Refusals.{scrollMode}
-use Rattle.row.proofs.refusals.scroll_mode.Statement.{statement}
-use Rattle.row.proofs.refusals.scroll_mode.Tie as tie
+use Rattle.row.specs.Refusals.{smoothScroll}
+use Rattle.row.proofs.refusals.smooth_scroll.Statement.{statement}
+use Rattle.row.proofs.refusals.smooth_scroll.Tie as tie
 
-pub scroll-mode-spec : {M : Type 1} → statement M
-unfolding scrollMode
-scroll-mode-spec =
+pub smooth-scroll-spec : {M : Type 1} → statement M
+unfolding smoothScroll
+smooth-scroll-spec =
     tie.close
     (tie.spec
     (λ c. simp (eq-eqb _ _ (c .if1 .taken)))

@@ -77,13 +77,13 @@ pub fn setups() -> Vec<Setup> {
     let unscrolled = listed.iter().map(|(name, registers, codes, _)| setup(name.to_string(), *registers, codes));
     let scrolled = listed.iter().enumerate().filter(|(_, (.., by))| *by != 0).map(|(place, (name, registers, codes, by))| Setup {
         unscrolled: Some(place),
-        ..setup(format!("{}, scrolled by {}", name, by), scrolled(*registers, *by), codes)
+        ..setup(format!("{}, scrolled by {}", name, by), as_wide_scrolled(*registers, *by), codes)
     });
     unscrolled.chain(scrolled).collect()
 }
 
 /// A column more, so that the rows are as wide.
-fn scrolled(r: Registers, by: u8) -> Registers {
+fn as_wide_scrolled(r: Registers, by: u8) -> Registers {
     Registers { cr: r.cr + 1, tcr: r.tcr + 1, ap: r.ap + 1, hdot: by, ..r }
 }
 

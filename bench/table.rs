@@ -23,7 +23,7 @@ struct Line {
     slower: Option<f64>,
     /// Filling, copying, or `cat`.
     base: Option<f64>,
-    /// Ours where the same rows aren't scrolled.
+    /// Ours on rows of the same width that aren't scrolled.
     unscrolled: Option<f64>,
 }
 

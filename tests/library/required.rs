@@ -63,7 +63,7 @@ pub fn required() -> Vec<Event> {
     each("field at # outside its layout in a lit row", &mut fields());
     each("field at # outside its layout replaced by a parameter", &mut fields());
     // CRY is read as 0 only where FC is 00, or else the row gets 15.
-    each("field at # whose low bits would give another row", &mut fields().filter(|field| *field != CRY as u8));
+    each("field at # whose low bits would give another answer", &mut fields().filter(|field| *field != CRY as u8));
     // FX read as 0 gets 18, and HDOT SCR read as 0 scrolls nothing.
     each("field at # outside its layout in a scrolled row", &mut [FY, FP, FC, CRX, CRY, MX, GREY].iter().map(|field| *field as u8));
     each("row scrolled by # with a dot that isn't 0", &mut (0..=7));

@@ -134,7 +134,9 @@ fn tested_row(controller: &Controller, request: &RowRequest, counts: &mut Counts
             counts.hit("8, wrong font #", &[index as u8]);
         }
         15 if controller.registers.cry >= 16 && registers.crx <= registers.fx => counts.hit("15 since CRY is read as 0", &[]),
-        18 if controller.registers.fx >= 16 && registers.grey == 0 && registers.cr != 0 => counts.hit("18 since FX is read as 0", &[]),
+        18 if controller.registers.fx >= 16 && registers.grey == 0 && registers.cr != 0 && registers.hdot <= controller.registers.fx % 16 => {
+            counts.hit("18 since FX is read as 0", &[])
+        }
         16 if request.row == rows => counts.hit("16 at row [L/F]", &[]),
         16 if request.row == u32::MAX => counts.hit("16 at the last number of 32 bits", &[]),
         16 if request.row % 65_536 < rows => counts.hit("16 where the row modulo 65,536 would pass", &[]),
@@ -172,7 +174,7 @@ fn accepted_row(controller: &Controller, before: &Kept, font: &[u8], frame: u32,
         let mut low_bits = before.controller.clone();
         low_bits[at] &= end.next_power_of_two() - 1;
         if row_of(&low_bits) != row {
-            counts.hit("field at # whose low bits would give another row", &[at as u8]);
+            counts.hit("field at # whose low bits would give another answer", &[at as u8]);
         }
     }
     if before.controller[GREY] == 3 {

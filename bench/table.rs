@@ -9,8 +9,11 @@ use reference::commands::{CSRDIR_DOWN, CSRDIR_LEFT, CSRDIR_RIGHT, CSRDIR_UP};
 use std::path::{Path, PathBuf};
 use std::process::Command;
 
-/// Processes for each library, run in turn; each is placed anew in the machine's memory.
-const PROCESSES: usize = 9;
+/// Processes for each library at each place, run in turn; each is placed anew in the machine's memory.
+const PROCESSES: usize = 3;
+
+/// What a process tells: three figures a line.
+type Told = Vec<[f64; 3]>;
 
 /// A row of the table; what is not there is not printed.
 #[derive(Default)]
@@ -27,8 +30,8 @@ struct Line {
     unscrolled: Option<f64>,
 }
 
-pub fn print(panel: &str, folder: &str, bench: &str, other: Option<&str>) -> Result<(), String> {
-    let mut lines = times(bench, other)?;
+pub fn print(panel: &str, folder: &str, ours: &str, other: Option<&str>) -> Result<(), String> {
+    let mut lines = times(ours, other)?;
     let panel = Path::new(panel).canonicalize().map_err(|error| format!("{}: {}", panel, error))?;
     lines.extend(program(&Program { panel, folder: PathBuf::from(folder) })?);
     let with_other = other.is_some();
@@ -60,22 +63,32 @@ fn number(value: Option<f64>) -> String {
     }
 }
 
-/// The medians of processes over the library and, in turn with them, over the other one.
-fn times(bench: &str, other: Option<&str>) -> Result<Vec<Line>, String> {
-    let (mut ours, mut others) = (vec![], vec![]);
+/// The programs over one library, each with the library at another place.
+fn programs(folder: &str) -> Result<Vec<PathBuf>, String> {
+    let entries = std::fs::read_dir(folder).map_err(|error| format!("{}: {}", folder, error))?;
+    let mut found: Vec<PathBuf> = entries.filter_map(|entry| Some(entry.ok()?.path())).collect();
+    found.retain(|path| path.file_name().map_or(false, |name| name.to_string_lossy().starts_with("bench-")));
+    found.sort();
+    Ok(found)
+}
+
+/// The figures of processes over the library and, in turn with them, over the other one.
+fn times(ours: &str, other: Option<&str>) -> Result<Vec<Line>, String> {
+    let programs = [programs(ours)?, other.map_or(Ok(vec![]), programs)?];
+    let [mut ours, mut others] = [&programs[0], &programs[1]].map(|places| vec![vec![]; places.len()]);
     for _ in 0..PROCESSES {
-        ours.push(process(bench)?);
-        if let Some(other) = other {
-            others.push(process(other)?);
+        for place in 0..ours.len() {
+            for (told, programs) in [(&mut ours, &programs[0]), (&mut others, &programs[1])] {
+                if let Some(program) = programs.get(place) {
+                    told[place].push(process(program)?);
+                }
+            }
         }
     }
-    let of = |runs: &[Vec<[f64; 3]>], line: usize, column: usize| {
-        let samples: Vec<f64> = runs.iter().map(|run| run[line][column]).filter(|time| !time.is_nan()).collect();
-        if samples.is_empty() {
-            None
-        } else {
-            Some(median(samples))
-        }
+    // The mean over the places of the median of each; nothing where there is none.
+    let of = |places: &[Vec<Told>], line: usize, column: usize| {
+        let medians = places.iter().map(|runs| median(runs.iter().map(|run| run[line][column]).collect()));
+        Some(medians.sum::<f64>() / places.len() as f64).filter(|mean| !mean.is_nan())
     };
     let setups = setups();
     // A set-up's rows in frames have its place as their line; in bands they come behind all those.
@@ -98,8 +111,9 @@ fn times(bench: &str, other: Option<&str>) -> Result<Vec<Line>, String> {
         .collect())
 }
 
-fn process(bench: &str) -> Result<Vec<[f64; 3]>, String> {
-    let output = Command::new(bench).arg("measure").output().map_err(|error| format!("{}: {}", bench, error))?;
+fn process(program: &Path) -> Result<Told, String> {
+    let bench = program.display();
+    let output = Command::new(program).arg("measure").output().map_err(|error| format!("{}: {}", bench, error))?;
     if !output.status.success() {
         return Err(format!("{} ended with {}", bench, output.status));
     }

@@ -69,7 +69,7 @@ module _ (r : Refresh) where
   command-run c h s memory full t =
       let p = plain c h in
       rw (p .no-memory)
-      (runs-cons (begun c (opcode r c) (p .known) (p .some) s memory t) refl
+      (runs-cons (begun c (opcode r c) (p .known) (p .some) (p .no-sleep) s memory t) refl
       (parameters-run c (p .no-memory) 0 (parameters c) (omega arith) (r .values c) (begin c (opcode r c) (s .registers)) memory full (rw (p .no-sleep) t)))
 
   -- what the ten set, each its own fields
@@ -108,25 +108,25 @@ module _ (r : Refresh) where
         asleep = if seen SystemSet then settled .asleep else x .asleep;
       }
 
-  put-settling : (c : Command) → Ten c → (seen : Command → Bool) (x : Registers) → put c (settling seen x) ≡ settling (also c seen) x
+  put-settling : (c : Command) → Ten c → (seen : Command → Bool) (x : Registers) → settling seen x .asleep ≡ false → put c (settling seen x) ≡ settling (also c seen) x
   unfolding begin store storeSystem storeDisplay storeBlocks storeForm storeOverlay directionOf
   put-settling =
-      of-ten (λ c. (seen : Command → Bool) (x : Registers) → put c (settling seen x) ≡ settling (also c seen) x)
+      of-ten (λ c. (seen : Command → Bool) (x : Registers) → settling seen x .asleep ≡ false → put c (settling seen x) ≡ settling (also c seen) x)
       (record {
-        system-set = λ seen x. let v = r .values SystemSet in simp (both-bytes (v .3 .3 .3 .3 .3 .3 .1));
+        system-set = λ seen x a. let v = r .values SystemSet in simp (a, both-bytes (v .3 .3 .3 .3 .3 .3 .1));
         scroll =
-            λ seen x.
+            λ seen x a.
             let v = r .values Scroll in
             simp (both-bytes (v .1), both-bytes (v .3 .3 .3 .1), both-bytes (v .3 .3 .3 .3 .3 .3 .1), both-bytes (v .3 .3 .3 .3 .3 .3 .3 .3 .1));
-        csr-form = λ seen x. refl;
-        csr-dir = λ seen x. refl;
-        ovlay = λ seen x. refl;
-        cgram-adr = λ seen x. simp (both-bytes (r .values CgramAdr .1));
-        hdot-scr = λ seen x. refl;
-        grey-scale = λ seen x. refl;
-        disp = λ seen x. refl;
+        csr-form = λ seen x a. refl;
+        csr-dir = λ seen x a. refl;
+        ovlay = λ seen x a. refl;
+        cgram-adr = λ seen x a. simp (both-bytes (r .values CgramAdr .1));
+        hdot-scr = λ seen x a. refl;
+        grey-scale = λ seen x a. refl;
+        disp = λ seen x a. refl;
         csrw =
-            λ seen x.
+            λ seen x a.
             let low : r .values Csrw .0 ≡ 0 = ap (λ (l : List ℕ). getD l 0 0) (r .home) in
             let high : r .values Csrw .3 .0 ≡ 0 = ap (λ (l : List ℕ). getD l 1 0) (r .home) in
             simp (both-bytes (r .values Csrw .1)) (rw (low, high));
@@ -148,18 +148,27 @@ module _ (r : Refresh) where
   settling-run (c ∷ cs) h seen x pending memory full a =
       let now = command-run c (h .0) (record { registers = settling seen x; pending = pending }) memory full (takes-awake c (settling seen x) a) in
       let later = settling-run cs (h .1) (also c seen) x (record { command = c; place = parameters c }) memory full (awake-also c seen x a) in
-      (later .0, runs-append (send r c) (runs-to (ap (λ (y : Registers). machine (controller y c (parameters c)) memory) (put-settling c (h .0) seen x)) now) (later .1), later .2)
+      (later .0, runs-append (send r c) (runs-to (ap (λ (y : Registers). machine (controller y c (parameters c)) memory) (put-settling c (h .0) seen x a)) now) (later .1), later .2)
+
+  -- SYSTEM SET, awake or not, settles its own fields and leaves the chip awake
+  put-first : (x : Registers) → put SystemSet x ≡ settling (also SystemSet none) (put SystemSet x)
+  unfolding begin store storeSystem
+  put-first x = simp (woken (x .asleep), both-bytes (r .values SystemSet .3 .3 .3 .3 .3 .3 .1))
+    where
+      woken : (asleep : Bool) → (if asleep then false else asleep) ≡ false
+      woken true = refl
+      woken false = refl
 
   -- and SYSTEM SET before them, awake or not
   pub first-run : (cs : List Command) → All Ten cs → (s : Controller) (memory : List ℕ) → length memory ≡ memorySize
-      → (pending′ : Pending)
-      × Runs Accepted (machine s memory) (sends r (SystemSet ∷ cs)) (machine (record { registers = settling (adds (SystemSet ∷ cs) none) (s .registers); pending = pending′ }) memory)
-      × (settling (adds (SystemSet ∷ cs) none) (s .registers) .asleep ≡ false)
+      → (x : Registers) × (pending′ : Pending)
+      × Runs Accepted (machine s memory) (sends r (SystemSet ∷ cs)) (machine (record { registers = settling (adds (SystemSet ∷ cs) none) x; pending = pending′ }) memory)
   unfolding ignored
   first-run cs h s memory full =
+      let x = put SystemSet (s .registers) in
       let now = command-run SystemSet (omega arith) s memory full refl in
-      let later = settling-run cs h (also SystemSet none) (s .registers) (record { command = SystemSet; place = parameters SystemSet }) memory full refl in
-      (later .0, runs-append (send r SystemSet) (runs-to (ap (λ (y : Registers). machine (controller y SystemSet (parameters SystemSet)) memory) (put-settling SystemSet (omega arith) none (s .registers))) now) (later .1), later .2)
+      let later = settling-run cs h (also SystemSet none) x (record { command = SystemSet; place = parameters SystemSet }) memory full refl in
+      (x, later .0, runs-append (send r SystemSet) (runs-to (ap (λ (y : Registers). machine (controller y SystemSet (parameters SystemSet)) memory) (put-first (s .registers))) now) (later .1))
 
   pub order-ten : All Ten (r .order)
   order-ten = all-counted Ten (r .order) (λ c h. go c (c is SystemSet) refl (subst (λ (n : ℕ). 0 < n) (r .once c) h))
@@ -175,7 +184,7 @@ module _ (r : Refresh) where
   pub write-begun : (x : Registers) (pending : Pending) (memory : List ℕ) → x .asleep ≡ false
       → call (machine (record { registers = x; pending = pending }) memory) (command 0x42) ≡ accept (controller x Mwrite 0) memory
   unfolding commandOf begin
-  write-begun x pending memory a = begun Mwrite 0x42 refl refl (record { registers = x; pending = pending }) memory (takes-awake Mwrite x a)
+  write-begun x pending memory a = begun Mwrite 0x42 refl refl refl (record { registers = x; pending = pending }) memory (takes-awake Mwrite x a)
 
   sends-append : (cs ds : List Command) → sends r (cs ++ ds) ≡ sends r cs ++ sends r ds
   sends-append [] ds = refl
@@ -191,11 +200,11 @@ module _ (r : Refresh) where
   pub refreshed : (s : Controller) (memory : List ℕ) → length memory ≡ memorySize → Runs Accepted (machine s memory) (sent r) image
   refreshed s memory full =
       let t = first-run (r .order) order-ten s memory full in
-      runs-sends (SystemSet ∷ r .order) (Mwrite ∷ []) (t .1)
-      (subst (λ (x : Registers). Runs Accepted (machine (record { registers = x; pending = t .0 }) memory) (sends r (Mwrite ∷ [])) image)
-      (sym (settling-all (adds (SystemSet ∷ r .order) none) (s .registers) all-seen))
+      runs-sends (SystemSet ∷ r .order) (Mwrite ∷ []) (t .2)
+      (subst (λ (x : Registers). Runs Accepted (machine (record { registers = x; pending = t .1 }) memory) (sends r (Mwrite ∷ [])) image)
+      (sym (settling-all (adds (SystemSet ∷ r .order) none) (t .0) all-seen))
       (runs-append (send r Mwrite)
-      (runs-cons (write-begun settled (t .0) memory refl) refl (filled settled refl refl [] memory (r .memory) (full ∙ sym (r .memory-full)) full)) runs-none))
+      (runs-cons (write-begun settled (t .1) memory refl) refl (filled settled refl refl [] memory (r .memory) (full ∙ sym (r .memory-full)) full)) runs-none))
     where
       all-seen : (c : Command) → Ten c → adds (SystemSet ∷ r .order) none c ≡ true
       all-seen c h = adds-counted (SystemSet ∷ r .order) none c (go (c is SystemSet) refl)

@@ -10,7 +10,7 @@ use lib.ListN.{length, set, length-append, length-set}
 use lib.Seq.{append-snoc, set-append-seam}
 use borrow.Author.Tests.{eq-eqb, lt-ltb, ltb-true}
 use Rattle.registers.specs.declared.Command.{Command}
-use Rattle.registers.specs.declared.Command.the-variants.{None, SystemSet, Mwrite}
+use Rattle.registers.specs.declared.Command.the-variants.{None, SystemSet, SleepIn, Mwrite}
 use Rattle.registers.specs.declared.Direction.the-variants.{Right}
 use Rattle.registers.specs.declared.Registers.{Registers}
 use Rattle.choice.specs.Choice.{if_then_else_, _<?_, _=?_}
@@ -21,7 +21,7 @@ use Rattle.registers.specs.Cursor.{nextAddress, withCursor}
 use Rattle.registers.specs.Sizes.{memorySize}
 use Rattle.model.specs.declared.Controller.{Controller}
 use Rattle.model.specs.Machine.{Machine, machine, accept, controller}
-use Rattle.model.specs.Bus.{ignored, commandWrite, served, dataWrite, writeParameter, writeMemory}
+use Rattle.model.specs.Bus.{ignored, sleepsDark, commandWrite, served, dataWrite, writeParameter, writeMemory}
 use Rattle.model.specs.Calls.{command, write, call}
 use Rattle.model.specs.Refresh.{Values, bytes}
 use Rattle.model.specs.Demand.{Accepted, Only7}
@@ -39,15 +39,15 @@ takes-stored : (c : Command) (place b : ℕ) (x : Registers) → Takes c x → T
 unfolding ignored store
 takes-stored c place b x = go (c is SystemSet) (place =? 0)
   where
-    go : (t s : Bool) → (not t && x .asleep) ≡ false → (not t && (if t && s then false else x .asleep)) ≡ false
+    go : (t s : Bool) → (not t && x .asleep) ≡ false → (not t && (if t && s && x .asleep then false else x .asleep)) ≡ false
     go true s h = refl
     go false s h = h
 
 -- a command byte that is taken
-pub begun : (c : Command) (b : ℕ) → commandOf b ≡ c → (c is None) ≡ false → (s : Controller) (memory : List ℕ) → Takes c (s .registers)
+pub begun : (c : Command) (b : ℕ) → commandOf b ≡ c → (c is None) ≡ false → (c is SleepIn) ≡ false → (s : Controller) (memory : List ℕ) → Takes c (s .registers)
     → call (machine s memory) (command b) ≡ accept (controller (begin c b (s .registers)) c 0) memory
-unfolding commandWrite
-begun c b e n s memory t = rw (e, n, t)
+unfolding commandWrite sleepsDark
+begun c b e n w s memory t = rw (e, n, t, w)
 
 -- a parameter that is wanted and allowed
 stored : (c : Command) (place b : ℕ) → place < parameters c → (c is Mwrite) ≡ false → allowed c place b ≡ true → (x : Registers) (memory : List ℕ) → length memory ≡ memorySize → Takes c x

@@ -1,10 +1,10 @@
--- Reference, 'Commands', 'Memory and cursor' and 'Refusals'; 01, 'Refusal numbers' and 'Reset, commands and parameters': what a
--- command write, a data write and a data read do.
+-- Reference, 'Commands', 'Memory and cursor' and 'Refusals'; 01, 'Refusal numbers' and 'Reset, commands and parameters', and request
+-- #102: what a command write, a data write and a data read do.
 use Prim.Native.Nat.{ℕ, _+_, _/_, _%_}
 use mathlib.Core.Bool.{Bool, not, _&&_}
 use lib.ListN.{length, getD, set}
 use Rattle.registers.specs.declared.Command.{Command}
-use Rattle.registers.specs.declared.Command.the-variants.{None, SystemSet, Csrr, Mwrite, Mread}
+use Rattle.registers.specs.declared.Command.the-variants.{None, SystemSet, SleepIn, Csrr, Mwrite, Mread}
 use Rattle.choice.specs.Choice.{if_then_else_, _<?_, _=?_}
 use Rattle.registers.specs.Commands.{commandOf, _is_, parameters}
 use Rattle.registers.specs.Parameters.{begin, store, allowed}
@@ -17,13 +17,18 @@ use Rattle.model.specs.Machine.{Machine, Outcome, accept, give, refuse, 
 unfoldable pub ignored : Command → Bool → Bool
 ignored command asleep = not (command is SystemSet) && asleep
 
--- An accepted command byte replaces the pending command; parameters already taken stay. A command write tests 2, 5.
+-- #102: SLEEP IN with D = 0
+unfoldable pub sleepsDark : Command → Bool → Bool
+sleepsDark command on = command is SleepIn && not on
+
+-- An accepted command byte replaces the pending command; parameters already taken stay. A command write tests 2, 5, 19.
 unfoldable pub commandWrite : Machine → ℕ → Outcome
 commandWrite m b =
     let c = m .controller in
     let command = commandOf b in
     if command is None then refuse 2 (ended c) (m .memory)
     else if ignored command (c .registers .asleep) then refuse 5 (ended c) (m .memory)
+    else if sleepsDark command (c .registers .display .on) then refuse 19 (ended c) (m .memory)
     else accept (controller (begin command b (c .registers)) command 0) (m .memory)
 
 -- asleep, a pending command other than 40h wants nothing and has nothing to read

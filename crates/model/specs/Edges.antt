@@ -126,7 +126,7 @@ edges =
     -- 2 bits and 80 give 320
     ∷ edge (twoBits ++ columns 79 83) (write 0) (row0 320) 0
     -- asleep, 59h: 5
-    ∷ edge (sending 0x53 []) (command 0x59) refusal 5
+    ∷ edge (sending 0x59 [] ++ sending 0x53 []) (command 0x59) refusal 5
     ∷ []
 
 abbrev pub EdgesHold : Type 0

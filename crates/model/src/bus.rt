@@ -13,8 +13,9 @@ use registers::Registers;
 ghost use Prim.Native.Nat.{ℕ};
 ghost use mathlib.Core.List.{List};
 ghost use mathlib.Core.Path.{_≡_};
-ghost use Rattle.model.specs.Machine.{resetController, machine, writtenOutcome, readOutcome, withPending, ended};
-ghost use Rattle.model.specs.Bus.{ignored, served, commandWrite, dataWrite, cursorReads, addressByte, dataRead};
+ghost use Rattle.registers.specs.Refusals.{number};
+ghost use Rattle.model.specs.Machine.{resetController, machine, refuse, writtenOutcome, readOutcome, withPending, ended};
+ghost use Rattle.model.specs.Bus.{ignored, sleepsDark, served, commandWrite, dataWrite, cursorReads, addressByte, dataRead};
 ghost use Rattle.model.specs.WriteRun.{runOutcome, writeRunOutcome};
 
 // Whether a command is neither taken nor served: asleep, any but SYSTEM SET.
@@ -26,6 +27,13 @@ fn ignored(command: Command, asleep: bool) -> bool
     } else {
         asleep
     }
+}
+
+// Whether a command is SLEEP IN with the display off: it is to be on before sleep.
+fn sleeps_dark(command: Command, on: bool) -> bool
+    ensures { λ r. ⌜ r ≡ sleepsDark command on ⌝ }
+{
+    if command.is(Command::SleepIn) { !on } else { false }
 }
 
 // How many reads a command gives, but for MREAD, whose reads have no end.
@@ -79,6 +87,16 @@ impl Controller {
         self.with_pending(Command::None)
     }
 
+    // Refused, and the pending command ended.
+    fn end_refused(self, refusal: Refusal) -> Written
+        ensures { λ r. ⌜ ((memory : List ℕ) → writtenOutcome r memory ≡ refuse (number refusal) (ended self) memory) ⌝ }
+    {
+        Written {
+            controller: self.ended(),
+            answer: Answer::Refused(refusal),
+        }
+    }
+
     // The pending command that data writes and reads go to.
     fn served(self) -> Command
         ensures { λ r. ⌜ r ≡ served self ⌝ }
@@ -97,16 +115,13 @@ impl Controller {
     {
         let command = Command::of(b);
         if command.is(Command::None) {
-            return Written {
-                controller: self.ended(),
-                answer: Answer::Refused(Refusal::UnknownCommand),
-            };
+            return self.end_refused(Refusal::UnknownCommand);
         }
         if ignored(command, self.registers.asleep) {
-            return Written {
-                controller: self.ended(),
-                answer: Answer::Refused(Refusal::Asleep),
-            };
+            return self.end_refused(Refusal::Asleep);
+        }
+        if sleeps_dark(command, self.registers.display.on) {
+            return self.end_refused(Refusal::DisplayOff);
         }
         self.registers = self.registers.begin(command, b);
         Written {
@@ -144,10 +159,7 @@ impl Controller {
                 answer: Answer::Accepted,
             };
         }
-        Written {
-            controller: self.ended(),
-            answer: Answer::Refused(Refusal::NotAllowed),
-        }
+        self.end_refused(Refusal::NotAllowed)
     }
 
     // The data writes of as many bytes, from the first on, as go into memory and are accepted.

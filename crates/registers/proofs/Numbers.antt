@@ -5,7 +5,7 @@ use mathlib.Core.Path.{_≡_, refl, sym, ap, _∙_}
 use native.Mathlib.Omega.{arith}
 use lib.ListN.{getD}
 use Rattle.registers.specs.declared.Refusal.{Refusal}
-use Rattle.registers.specs.declared.Refusal.the-variants.{MemorySize, UnknownCommand, NothingWanted, NotAllowed, Asleep, NothingToRead, OutsideMemory, FontSize, GreyMode, CharacterWidth, RowWidth, OddLines, ShortLine, LayerOrder, CursorShape, RowNumber, BufferSize, SmoothScroll}
+use Rattle.registers.specs.declared.Refusal.the-variants.{MemorySize, UnknownCommand, NothingWanted, NotAllowed, Asleep, NothingToRead, OutsideMemory, FontSize, GreyMode, CharacterWidth, RowWidth, OddLines, ShortLine, LayerOrder, CursorShape, RowNumber, BufferSize, SmoothScroll, DisplayOff}
 use Rattle.registers.specs.declared.Answer.{Answer}
 use Rattle.registers.specs.declared.Answer.the-variants.{Accepted, Refused}
 use Rattle.registers.specs.declared.ReadAnswer.{ReadAnswer}
@@ -17,7 +17,8 @@ answered n =
     getD
     (Accepted ∷ Refused MemorySize ∷ Refused UnknownCommand ∷ Refused NothingWanted ∷ Refused NotAllowed ∷ Refused Asleep
     ∷ Refused NothingToRead ∷ Refused OutsideMemory ∷ Refused FontSize ∷ Refused GreyMode ∷ Refused CharacterWidth ∷ Refused RowWidth
-    ∷ Refused OddLines ∷ Refused ShortLine ∷ Refused LayerOrder ∷ Refused CursorShape ∷ Refused RowNumber ∷ Refused BufferSize ∷ Refused SmoothScroll ∷ [])
+    ∷ Refused OddLines ∷ Refused ShortLine ∷ Refused LayerOrder ∷ Refused CursorShape ∷ Refused RowNumber ∷ Refused BufferSize ∷ Refused SmoothScroll
+    ∷ Refused DisplayOff ∷ [])
     n Accepted
 
 of-number : (r : Refusal) → Refused r ≡ answered (number r)
@@ -39,6 +40,7 @@ of-number CursorShape = refl
 of-number RowNumber = refl
 of-number BufferSize = refl
 of-number SmoothScroll = refl
+of-number DisplayOff = refl
 
 of-reply : (a : Answer) → a ≡ answered (reply a .refusal)
 of-reply Accepted = refl

@@ -62,6 +62,10 @@ storeSystem place b s =
       ap = storeWord 6 place b (s .ap);
     }
 
+-- D set
+abbrev pub withOn : Bool → Display → Display
+withOn on d = record { on = on; fp = d .fp; fc = d .fc }
+
 -- P1: 7-2 FP5..FP0, 1-0 FC
 unfoldable pub storeDisplay : ℕ → ℕ → Display → Display
 storeDisplay place b d =
@@ -102,12 +106,19 @@ storeOverlay place b o =
       mx = if place =? 0 then bits 1 0 b else o .mx;
     }
 
--- the parameter b at a place of a command's list; the accepted P1 of SYSTEM SET wakes the chip
+-- asleep, the accepted P1 of SYSTEM SET wakes the chip
+abbrev pub wakes : Command → ℕ → Registers → Bool
+wakes command place r = command is SystemSet && place =? 0 && r .asleep
+
+-- the parameter b at a place of a command's list; #102: the P1 that wakes the chip also sets D to 0
 unfoldable pub store : Command → ℕ → ℕ → Registers → Registers
 store command place b r =
     record {
       system = if command is SystemSet then storeSystem place b (r .system) else r .system;
-      display = if command is Disp then storeDisplay place b (r .display) else r .display;
+      display =
+          if command is Disp then storeDisplay place b (r .display)
+          else if wakes command place r then withOn false (r .display)
+          else r .display;
       blocks = if command is Scroll then storeBlocks place b (r .blocks) else r .blocks;
       form = if command is CsrForm then storeForm place b (r .form) else r .form;
       overlay = if command is Ovlay then storeOverlay place b (r .overlay) else r .overlay;
@@ -119,7 +130,7 @@ store command place b r =
             address = if command is Csrw then storeWord 0 place b (r .cursor .address) else r .cursor .address;
             direction = r .cursor .direction;
           };
-      asleep = if command is SystemSet && place =? 0 then false else r .asleep;
+      asleep = if wakes command place r then false else r .asleep;
     }
 
 -- What a command byte sets at once
@@ -133,12 +144,7 @@ unfoldable pub begin : Command → ℕ → Registers → Registers
 begin command b r =
     record {
       system = r .system;
-      display =
-          record {
-            on = if command is Disp then b =? 0x59 else r .display .on;
-            fp = r .display .fp;
-            fc = r .display .fc;
-          };
+      display = if command is Disp then withOn (b =? 0x59) (r .display) else r .display;
       blocks = r .blocks;
       form = r .form;
       overlay = r .overlay;

@@ -1,7 +1,7 @@
--- Reference, 'Refusals'; 01, 'Refusal numbers', and request #101.
+-- Reference, 'Refusals'; 01, 'Refusal numbers', and requests #101 and #102.
 use Prim.Native.Nat.{ℕ}
 use Rattle.registers.specs.declared.Refusal.{Refusal}
-use Rattle.registers.specs.declared.Refusal.the-variants.{MemorySize, UnknownCommand, NothingWanted, NotAllowed, Asleep, NothingToRead, OutsideMemory, FontSize, GreyMode, CharacterWidth, RowWidth, OddLines, ShortLine, LayerOrder, CursorShape, RowNumber, BufferSize, SmoothScroll}
+use Rattle.registers.specs.declared.Refusal.the-variants.{MemorySize, UnknownCommand, NothingWanted, NotAllowed, Asleep, NothingToRead, OutsideMemory, FontSize, GreyMode, CharacterWidth, RowWidth, OddLines, ShortLine, LayerOrder, CursorShape, RowNumber, BufferSize, SmoothScroll, DisplayOff}
 use Rattle.registers.specs.declared.Answer.{Answer}
 use Rattle.registers.specs.declared.Answer.the-variants.{Accepted, Refused}
 use Rattle.registers.specs.declared.ReadAnswer.{ReadAnswer}
@@ -44,6 +44,8 @@ number RowNumber = 16
 number BufferSize = 17
 -- #101: HDOT SCR not 0, and (grey set, HDOT SCR at least [FX], or [C/R] 1)
 number SmoothScroll = 18
+-- #102: SLEEP IN with D = 0
+number DisplayOff = 19
 
 -- What is answered: the refusal's number, or 0 where there is none, and the value read, or 0. A refused read gives the value 0.
 pub record Reply : Type 0 where

@@ -141,6 +141,7 @@ pub enum Refusal {
     RowNumber,
     BufferSize,
     SmoothScroll,
+    DisplayOff,
 }
 
 // What a write or a row answers.

@@ -26,6 +26,7 @@ impl Refusal {
             Refusal::RowNumber => 16,
             Refusal::BufferSize => 17,
             Refusal::SmoothScroll => 18,
+            Refusal::DisplayOff => 19,
         }
     }
 }

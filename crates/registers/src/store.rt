@@ -147,7 +147,10 @@ impl Registers {
             Command::SystemSet => {
                 self.system = self.system.store(place, b);
                 if place == 0 {
-                    self.asleep = false;
+                    if self.asleep {
+                        self.asleep = false;
+                        self.display.on = false;
+                    }
                 }
             }
             Command::Disp => self.display = self.display.store(place, b),

@@ -28,10 +28,10 @@ use Rattle.lines.proofs.Lengths.{Small, line-length, row-length}
 use Rattle.session.specs.Records.{busCalls, writeReplyLines, readReplyLines, callLines, callsLines, rowLines, framed, frameLines}
 use Rattle.session.specs.Stream.{Short, LinesShort}
 
--- Refusals are small numbers: those of a call are 1 to 7, those of a row 1 to 18
+-- The number of a refusal fits in a byte
 
 abbrev SmallRefusal : Outcome → Type 0
-SmallRefusal o = o .reply .refusal < 8
+SmallRefusal o = Byte (o .reply .refusal)
 
 call-refusal : (m : Machine) (c : BusCall) → SmallRefusal (call m c)
 unfolding commandWrite dataWrite dataRead writeMemory writeParameter readMemory readCursor
@@ -39,9 +39,9 @@ call-refusal m (command b) = search (choose SmallRefusal, lit<) depth 12
 call-refusal m (write b) = search (choose SmallRefusal, lit<) depth 12
 call-refusal m read = search (choose SmallRefusal, lit<) depth 12
 
-row-refusal : (r : Registers) (memory font n buffer : ℕ) → rowRefusal r memory font n buffer < 19
+row-refusal : (r : Registers) (memory font n buffer : ℕ) → Byte (rowRefusal r memory font n buffer)
 unfolding rowRefusal
-row-refusal r memory font n buffer = search (choose (λ (refusal : ℕ). refusal < 19), lit<) depth 28
+row-refusal r memory font n buffer = search (choose Byte, lit<) depth 28
 
 -- Calls: a line has at most three numbers, each of 64 bits
 

@@ -23,4 +23,4 @@ data-write-spec =
     (λ c κs. search needs)
     (λ c. let q = c .before .before .before in let p = q .before .before .before in rw (c .store .ensures, eq-eqb _ _ (p .before .before .before .if1 .left), ← p .before .before .served .ensures, sym (p .before .is .ensures) ∙ p .if2 .left, lt-ltb _ _ (rw (q .before .before .parameters .ensures) at (q .before .if3 .left)), sym (q .allows .ensures) ∙ c .before .before .if4 .taken))
     (λ c κs. search needs)
-    (λ c. let q = c .before .before in let p = q .before .before .before in rw (c .ended .ensures, eq-eqb _ _ (p .before .before .before .if1 .left), ← p .before .before .served .ensures, sym (p .before .is .ensures) ∙ p .if2 .left, lt-ltb _ _ (rw (q .before .before .parameters .ensures) at (q .before .if3 .left)), sym (q .allows .ensures) ∙ c .before .if4 .left)))
+    (λ c. let q = c .before .before in let p = q .before .before .before in rw (c .end-refused .ensures, eq-eqb _ _ (p .before .before .before .if1 .left), ← p .before .before .served .ensures, sym (p .before .is .ensures) ∙ p .if2 .left, lt-ltb _ _ (rw (q .before .before .parameters .ensures) at (q .before .if3 .left)), sym (q .allows .ensures) ∙ c .before .if4 .left)))

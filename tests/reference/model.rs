@@ -37,6 +37,10 @@ impl Controller {
         if r.asleep && code != SYSTEM_SET {
             return Err(5);
         }
+        // The manual wants the display on before sleep (#102).
+        if code == SLEEP_IN && !r.d {
+            return Err(19);
+        }
         self.pending = command;
         match code {
             SLEEP_IN => r.asleep = true,
@@ -66,8 +70,10 @@ impl Controller {
             return Err(4);
         }
         parameters::store(&mut self.registers, self.pending, self.place, value);
-        if self.pending == SYSTEM_SET && self.place == 0 {
+        // Waking leaves the display off, until DISP ON is sent (#102).
+        if self.pending == SYSTEM_SET && self.place == 0 && self.registers.asleep {
             self.registers.asleep = false;
+            self.registers.d = false;
         }
         self.place += 1;
         Ok(())

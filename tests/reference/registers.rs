@@ -25,7 +25,7 @@ pub struct Registers {
     pub tcr: u8,
     pub lf: u8,
     pub ap: u16,
-    /// D, set by the codes 58 and 59.
+    /// D, set by the codes 58 and 59, and cleared by waking (#102).
     pub d: bool,
     /// FP5 to FP0.
     pub fp: u8,

@@ -4,6 +4,7 @@
 page.bus    a text page over a graphics frame, with a message strip in the third screen block
 grey.bus    a picture of four shades: a gradient behind a box that has priority over it
 scroll.bus  a job list that moves to the left a dot at a time, its cursor with it, until it has moved by a character
+wake.bus    a page that sleep darkens, that waking leaves dark and DISP ON shows again; and a sleep that is refused
 worked.bus  the worked example of the rules: two rows of graphics, and a byte that is no command
 """
 import os
@@ -83,6 +84,18 @@ def scroll():
     return made + show(8)
 
 
+def wake():
+    width, rows = 5, 8
+    made = bus(0x40, 0x10, 7, 7, width - 1, width + 3, rows - 1, width, 0)  # 40 x 8 dots, 8 x 8 characters
+    made += bus(0x44, 0, 0, rows - 1, 0x00, 0x01, rows - 1)
+    made += bus(0x5B, 0x00) + bus(0x59, 0x14)  # block 1 text, OR, steady
+    made += write(0x0000, b"BAY 4") + show(0)
+    made += bus(0x53) + show(1)
+    made += bus(0x40, 0x10) + show(2)  # P1 alone wakes
+    made += bus(0x59) + show(3)
+    return made + bus(0x58) + bus(0x53)  # with the display off it may not sleep
+
+
 def worked():
     made = bus(0x40, 0x10, 7, 7, 0, 4, 1, 1, 0) + bus(0x44, 0, 0, 1, 0x10, 0, 1) + bus(0x5B, 0x0D) + bus(0x59, 0x14)
     made += bus(0x46, 0, 0) + bus(0x42, 0xA5, 0x3C) + bus(0x46, 0x10, 0) + bus(0x42, 0xFF)
@@ -91,7 +104,9 @@ def worked():
 
 def main():
     folder = sys.argv[1] if len(sys.argv) > 1 else os.path.dirname(os.path.abspath(__file__))
-    made = {"font.bin": font(), "page.bus": page(), "grey.bus": grey(), "scroll.bus": scroll(), "worked.bus": worked()}
+    made = {
+        "font.bin": font(), "page.bus": page(), "grey.bus": grey(), "scroll.bus": scroll(), "wake.bus": wake(), "worked.bus": worked(),
+    }
     for name, data in made.items():
         with open(os.path.join(folder, name), "wb") as file:
             file.write(data)

@@ -2,6 +2,7 @@
 
 use support::random::Random;
 use support::records::Records;
+use support::sleep::WITH_DATA;
 use reference::commands::*;
 
 /// Frame numbers at the edges of the periods 4, 32 and 64, and large ones.
@@ -113,7 +114,29 @@ fn small_list(code: u8, random: &mut Random) -> Vec<u8> {
     list
 }
 
+/// SLEEP IN with the display off, mostly while a command wants data or has something to read, and then both (#102).
+fn refused_sleep(records: &mut Records, random: &mut Random) {
+    records.command(DISP_OFF, &[]);
+    if random.chance(85) {
+        let code = random.pick(&WITH_DATA);
+        let mut list = small_list(code, random);
+        list.truncate(random.below(list.len().max(1) as u32) as usize);
+        records.command(code, &list);
+    } else {
+        records.command(unknown(random), &[]);
+    }
+    let data = random.below(3);
+    records.command(SLEEP_IN, &random.bytes(data));
+    records.read(1);
+}
+
 fn sleep(records: &mut Records, random: &mut Random) {
+    if random.chance(50) {
+        refused_sleep(records, random);
+    }
+    if random.chance(95) {
+        records.command(DISP_ON, &[]);
+    }
     let data = random.below(3);
     records.command(SLEEP_IN, &random.bytes(data));
     for _ in 0..random.between(1, 5) {
@@ -140,6 +163,10 @@ fn sleep(records: &mut Records, random: &mut Random) {
         let p1 = parameter(SYSTEM_SET, 0, true, random);
         records.command(SYSTEM_SET, &[p1]);
         show(records, random);
+        if random.chance(70) {
+            records.command(DISP_ON, &[]);
+            show(records, random);
+        }
     }
 }
 

@@ -2,9 +2,10 @@
 
 use reference::commands::*;
 use support::counts::Event;
+use support::sleep::WITH_DATA;
 
 /// Events that need no number.
-const PLAIN: [&str; 87] = [
+const PLAIN: [&str; 88] = [
     // Layers and blocks.
     "two layers, SL1 > SL2, before the split",
     "two layers, SL1 > SL2, after the split",
@@ -83,8 +84,9 @@ const PLAIN: [&str; 87] = [
     "asleep: an unknown code gets 2",
     "asleep: data gets 3",
     "asleep: a read gets 6",
-    "asleep: P1 of SYSTEM SET gets 4 and doesn't wake",
-    "asleep: P1 of SYSTEM SET wakes",
+    "19 with no command pending",
+    "frame dark since waking, which DISP ON would light",
+    "frame lit after waking and DISP ON",
     // Bus file.
     "file without records",
     "bad: another kind",
@@ -101,8 +103,8 @@ const PLAIN: [&str; 87] = [
 ];
 
 /// Events that are needed with each of some numbers.
-const WITH_NUMBER: [(&str, &[u8]); 48] = [
-    ("refusal # printed", &[2, 3, 4, 5, 6, 7, 8, 9, 10, 11, 12, 13, 14, 15, 18]),
+const WITH_NUMBER: [(&str, &[u8]); 53] = [
+    ("refusal # printed", &[2, 3, 4, 5, 6, 7, 8, 9, 10, 11, 12, 13, 14, 15, 18, 19]),
     ("command $ accepted", &CODES),
     ("two layers, SL1 < SL2, before the split, OV #", &[0, 1]),
     ("two layers, SL1 < SL2, after the split, OV #", &[0, 1]),
@@ -128,9 +130,10 @@ const WITH_NUMBER: [(&str, &[u8]); 48] = [
     ("11 at # bits", &[1, 2]),
     ("width 640 accepted at # bits", &[1, 2]),
     ("14 with OV #", &[0, 1]),
-    ("frame accepted asleep with D #", &[0, 1]),
+    // From reset no bus file falls asleep with D 0 (#102).
+    ("frame accepted asleep with D #", &[1]),
     ("18 by n = [FX] alone, [FX] #", &[1, 2, 3, 4, 5, 6, 7]),
-    ("scrolled frame accepted asleep with D #", &[0, 1]),
+    ("scrolled frame accepted asleep with D #", &[1]),
     ("row of # layers that only its own scrolling gives", &[2, 3]),
     ("cursor moved by direction $", &[CSRDIR_RIGHT, CSRDIR_LEFT, CSRDIR_UP, CSRDIR_DOWN]),
     ("cursor wrapped by direction $", &[CSRDIR_RIGHT, CSRDIR_LEFT, CSRDIR_UP, CSRDIR_DOWN]),
@@ -154,6 +157,11 @@ const WITH_NUMBER: [(&str, &[u8]); 48] = [
         SLEEP_IN, DISP_OFF, DISP_ON, SCROLL, CSRFORM, CSRDIR_RIGHT, CSRDIR_LEFT, CSRDIR_UP, CSRDIR_DOWN, OVLAY, CGRAM_ADR, HDOT_SCR,
         GRAY_SCALE, CSRW, CSRR, MWRITE, MREAD,
     ]),
+    ("asleep with D #, SLEEP IN gets 5", &[1]),
+    ("asleep with D #, P1 of SYSTEM SET gets 4", &[1]),
+    ("waking with D # leaves D 0", &[1]),
+    ("awake, P# of SYSTEM SET leaves D 1", &[1, 2, 3, 4, 5, 6, 7, 8]),
+    ("19 ends $ before its data", &WITH_DATA),
 ];
 
 /// The bits of each parameter that its layout fixes.
@@ -179,6 +187,9 @@ pub fn required() -> Vec<Event> {
     // Everything that takes data, and everything that takes none, with one byte too many.
     for code in CODES.iter().filter(|code| **code != MWRITE) {
         all.push(("data past the list of $ gets 3", vec![*code]));
+    }
+    for (asleep, d) in [(0, 0), (0, 1), (1, 1)] {
+        all.push(("asleep #, 40 leaves D #", vec![asleep, d]));
     }
     for (place, code, bits) in FIXED_BITS {
         all.extend(bits.iter().map(|bit| ("parameter # of $ gets 4 for bit #", vec![place, code, *bit])));

@@ -2,7 +2,7 @@
 
 use crate::handed_in;
 use exported::saved;
-use reference::commands::{CODES, MWRITE};
+use reference::commands::{CODES, MWRITE, SLEEP_IN, SYSTEM_SET};
 use reference::refusals::{FONT_SIZE, MEMORY_SIZE};
 use reference::registers::Registers;
 use std::fmt;
@@ -63,7 +63,12 @@ pub fn generate(seed: u64) -> Case {
     if !rows {
         handed_in::pending(&mut controller, &mut random);
         if random.chance(50) {
-            calls.push(Call::DataWrite(handed_in::parameter(&mut controller, &mut random)));
+            let value = handed_in::parameter(&mut controller, &mut random);
+            // SLEEP IN between, accepted or refused, ends what waits for the value (#102).
+            if random.chance(25) {
+                calls.push(Call::CommandWrite(SLEEP_IN));
+            }
+            calls.push(Call::DataWrite(value));
         }
     }
     if random.chance(15) {
@@ -112,7 +117,7 @@ fn row(controller: &[u8], random: &mut Random) -> Call {
 }
 
 fn call(controller: &[u8], random: &mut Random) -> Call {
-    match random.below(21) {
+    match random.below(22) {
         0 => Call::Reset,
         1 | 2 => Call::CommandWrite(if random.chance(80) { random.pick(&CODES) } else { random.byte() }),
         3..=6 => Call::DataRead,
@@ -122,6 +127,7 @@ fn call(controller: &[u8], random: &mut Random) -> Call {
         }
         9 => Call::CommandWrite(MWRITE),
         10 | 11 => row(controller, random),
+        12 => Call::CommandWrite(random.pick(&[SLEEP_IN, SYSTEM_SET])),
         _ => Call::DataWrite(if random.chance(60) { random.pick(&[0x00, 0x01, 0x02, 0x07, 0x10, 0x1F, 0x3D]) } else { random.byte() }),
     }
 }

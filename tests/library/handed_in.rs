@@ -1,7 +1,7 @@
 //! What only a caller can hand in: fields outside their layout, any pending command and place, bytes outside the saved form.
 
 use exported::saved;
-use reference::commands::{parameter_allowed, parameter_count, CODES, CSRR, MREAD, MWRITE};
+use reference::commands::{parameter_allowed, parameter_count, CODES, CSRR, MREAD, MWRITE, SYSTEM_SET};
 use support::random::Random;
 
 /// The fields of a byte that are narrower than it, by their place in the saved form, and the first value outside.
@@ -39,7 +39,7 @@ pub fn fields(controller: &mut [u8], random: &mut Random) {
     }
 }
 
-/// Any pending command and place, sometimes asleep, with the cursor near an edge.
+/// Any pending command and place, sometimes asleep, the display on or off, with the cursor near an edge.
 pub fn pending(controller: &mut [u8], random: &mut Random) {
     let command = match random.below(10) {
         0 => random.byte(),
@@ -53,7 +53,8 @@ pub fn pending(controller: &mut [u8], random: &mut Random) {
         _ => random.below(u32::from(parameter_count(command)) + 2) as u8,
     };
     controller[saved::PENDING..=saved::PLACE].copy_from_slice(&[command, place]);
-    controller[ASLEEP] = u8::from(random.chance(25));
+    controller[ASLEEP] = u8::from(random.chance(30));
+    controller[D] = u8::from(random.chance(60));
     let anywhere = random.word();
     let cursor = random.pick(&[0x0000, 0x0001, 0x7FFF, 0x8000, 0xFFFF, anywhere]);
     controller[CURSOR..CURSOR + 2].copy_from_slice(&cursor.to_le_bytes());
@@ -63,7 +64,9 @@ pub fn pending(controller: &mut [u8], random: &mut Random) {
 /// A command that waits for one of its parameters, and a value for it, mostly an allowed one.
 pub fn parameter(controller: &mut [u8], random: &mut Random) -> u8 {
     let places: Vec<(u8, u8)> = CODES.iter().flat_map(|code| (0..parameter_count(*code)).map(|place| (*code, place))).collect();
-    let (command, place) = random.pick(&places);
+    // Asleep it is P1 of SYSTEM SET that wakes.
+    let wakes = controller[ASLEEP] == 1 && random.chance(30);
+    let (command, place) = if wakes { (SYSTEM_SET, 0) } else { random.pick(&places) };
     controller[saved::PENDING..=saved::PLACE].copy_from_slice(&[command, place]);
     let allowed: Vec<u8> = (0..=255).filter(|value| parameter_allowed(command, place, *value)).collect();
     if random.chance(80) {

@@ -4,8 +4,9 @@ use crate::handed_in::*;
 use exported::saved;
 use reference::commands::*;
 use support::counts::Event;
+use support::sleep::WITH_DATA;
 
-const PLAIN: [&str; 26] = [
+const PLAIN: [&str; 27] = [
     "reset of bytes that are no controller",
     "another format",
     "a controller of another length",
@@ -15,7 +16,8 @@ const PLAIN: [&str; 26] = [
     "place past the reads of CSRR",
     "MWRITE at a place that isn't 0",
     "MREAD of a byte that isn't 0 at a place that isn't 0",
-    "asleep, P1 of SYSTEM SET gets 4",
+    "SLEEP IN accepted",
+    "19 with no command pending",
     "no data writes in one call",
     "asleep, data writes with MWRITE pending get 3",
     "data writes that start outside memory",
@@ -44,7 +46,7 @@ pub fn required() -> Vec<Event> {
     let mut each = |template: &'static str, numbers: &mut dyn Iterator<Item = u8>| {
         all.extend(numbers.map(|number| (template, vec![number])));
     };
-    each("answer #", &mut (0..=18));
+    each("answer #", &mut (0..=19));
     each("CSRR read #", &mut (1..=2));
     for call in [
         "1 on a data write, wrong memory #", "1 on data writes, wrong memory #", "1 on a data read, wrong memory #",
@@ -55,7 +57,11 @@ pub fn required() -> Vec<Event> {
     each("data writes all stored, direction #", &mut (0..4));
     each("data writes that leave memory, direction #", &mut (0..4));
     each("8, wrong font #", &mut (0..4));
-    each("asleep, P# of SYSTEM SET stored", &mut (1..=8));
+    for template in ["asleep with D #, SLEEP IN gets 5", "asleep with D #, P1 of SYSTEM SET gets 4", "waking with D # leaves D 0"] {
+        each(template, &mut (0..=1));
+    }
+    each("awake, P# of SYSTEM SET leaves D 1", &mut (1..=8));
+    each("19 ends $ before its data", &mut WITH_DATA.into_iter());
     each("asleep, $ has nothing to read", &mut [CSRR, MREAD].into_iter());
     each("asleep, $ wants nothing", &mut LISTS.iter().map(|list| list.0).filter(|command| *command != SYSTEM_SET).chain([MWRITE]));
     each("place past the list of $ wants nothing", &mut LISTS.iter().map(|list| list.0));
@@ -74,6 +80,11 @@ pub fn required() -> Vec<Event> {
     each("flag at # above 1 in a lit row", &mut seen.map(|flag| *flag as u8));
     for (command, parameters) in LISTS {
         all.extend((1..=parameters).map(|place| ("parameter # of $ stored", vec![place, command])));
+    }
+    for d in 0..=1 {
+        all.extend((2..=8).map(|parameter| ("asleep with D #, P# of SYSTEM SET stored", vec![d, parameter])));
+        all.extend((0..=1).map(|scrolled| ("asleep with D #, row accepted, scrolled #", vec![d, scrolled])));
+        all.extend((0..=1).map(|asleep| ("asleep #, 40 leaves D #", vec![asleep, d])));
     }
     for (first, later) in [(1, 8), (1, 16), (1, 17), (16, 17)] {
         all.push(("refusal # before #, both apply", vec![first, later]));

@@ -8,6 +8,7 @@ use reference::commands::*;
 use reference::model::{Controller, NONE};
 use reference::refusals::{tests_of_row, RowRequest};
 use support::counts::Counts;
+use support::sleep;
 
 pub fn call(before: &Kept, font: &[u8], call: &Call, answer: u32, after: &Kept, counts: &mut Counts) {
     let number = (answer % 256) as u8;
@@ -18,13 +19,19 @@ pub fn call(before: &Kept, font: &[u8], call: &Call, answer: u32, after: &Kept, 
         (None, _, _) => return counts.hit("a controller of another length", &[]),
     };
     counts.hit("answer #", &[number]);
+    let outcome = if number == 0 { Ok(()) } else { Err(number) };
+    let left = saved::read(&after.controller).expect("a call leaves a saved controller");
     match call {
         Call::Reset => {}
         Call::DataWrites(bytes) => data_writes(&controller, before, bytes, number, counts),
-        Call::CommandWrite(_) => handed_in_form(before, after, counts),
+        Call::CommandWrite(byte) => {
+            handed_in_form(before, after, counts);
+            sleep::command_write(&controller, *byte, outcome, &left, counts);
+        }
         Call::DataWrite(_) => {
             handed_in_form(before, after, counts);
             data_write(&controller, before, number, after, counts);
+            sleep::data_write(&controller, outcome, &left, counts);
         }
         Call::DataRead => data_read(&controller, before, answer, counts),
         Call::Row { frame, row, length } => {
@@ -62,7 +69,6 @@ fn data_write(controller: &Controller, before: &Kept, number: u8, after: &Kept, 
         3 if pending == NONE && before.controller[saved::PENDING] != 0 => counts.hit("pending code of no command wants nothing", &[]),
         3 if past && !asleep => counts.hit("place past the list of $ wants nothing", &[pending]),
         3 if !past => counts.hit("asleep, $ wants nothing", &[pending]),
-        4 if asleep && place == 0 => counts.hit("asleep, P1 of SYSTEM SET gets 4", &[]),
         0 if pending == MWRITE => {
             if place != 0 {
                 counts.hit("MWRITE at a place that isn't 0", &[]);
@@ -73,9 +79,6 @@ fn data_write(controller: &Controller, before: &Kept, number: u8, after: &Kept, 
         }
         0 => {
             counts.hit("parameter # of $ stored", &[place + 1, pending]);
-            if asleep {
-                counts.hit("asleep, P# of SYSTEM SET stored", &[place + 1]);
-            }
             for (at, end) in LIMITED {
                 if before.controller[at] >= end && after.controller[at] < end {
                     counts.hit("field at # outside its layout replaced by a parameter", &[at as u8]);
@@ -151,7 +154,11 @@ fn tested_row(controller: &Controller, request: &RowRequest, counts: &mut Counts
 
 fn accepted_row(controller: &Controller, before: &Kept, font: &[u8], frame: u32, request: &RowRequest, counts: &mut Counts) {
     let by = controller.registers.in_layout().scrolled_by() as u8;
-    if !controller.registers.d || controller.registers.asleep {
+    let (d, asleep) = (controller.registers.d, controller.registers.asleep);
+    if asleep {
+        counts.hit("asleep with D #, row accepted, scrolled #", &[u8::from(d), u8::from(by != 0)]);
+    }
+    if !d || asleep {
         return counts.hit("row scrolled by # accepted in a dark display", &[by]);
     }
     let row_of = |bytes: &[u8]| {

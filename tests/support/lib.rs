@@ -6,3 +6,4 @@ pub mod random;
 pub mod records;
 pub mod seeds;
 pub mod setup;
+pub mod sleep;

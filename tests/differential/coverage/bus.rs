@@ -29,10 +29,9 @@ impl BusWatch {
     }
 
     pub fn data_write(&self, before: &Controller, value: u8, answer: Result<(), u8>, counts: &mut Counts) {
-        let asleep = before.registers.asleep;
         match answer {
             Err(3) => {
-                if asleep {
+                if before.registers.asleep {
                     counts.hit("asleep: data gets 3", &[]);
                 }
                 match before.pending {
@@ -40,12 +39,7 @@ impl BusWatch {
                     _ => counts.hit("data past the list of $ gets 3", &[self.code]),
                 }
             }
-            Err(4) => {
-                bad_parameter(before.pending, before.place, value, counts);
-                if asleep {
-                    counts.hit("asleep: P1 of SYSTEM SET gets 4 and doesn't wake", &[]);
-                }
-            }
+            Err(4) => bad_parameter(before.pending, before.place, value, counts),
             _ if before.pending == MWRITE => {
                 cursor_moved(before, counts);
                 match usize::from(before.registers.cursor) {
@@ -54,7 +48,6 @@ impl BusWatch {
                     _ => {}
                 }
             }
-            _ if asleep && before.place == 0 => counts.hit("asleep: P1 of SYSTEM SET wakes", &[]),
             _ => {}
         }
     }

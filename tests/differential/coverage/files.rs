@@ -1,9 +1,11 @@
 //! Records, good and bad, and the lines of a file (01, 'Bus file and its program').
 
 use super::bus::BusWatch;
+use super::waking::WakingWatch;
 use super::{limits, rows, runs};
 use reference::busfile::{next_record, Machine, Record, LONGEST_PAYLOAD};
 use support::counts::Counts;
+use support::sleep;
 
 /// A program that reads a file in parts has read more than one by then.
 const PART: usize = 131_072;
@@ -13,7 +15,7 @@ const OUTPUT_BUFFER: usize = 65_536;
 
 /// Watches a whole file, and what is to be printed of it.
 pub fn watch_file(bus: &[u8], font: &[u8], printed: &str, counts: &mut Counts) {
-    let mut watch = FileWatch { machine: Machine::new(), bus: BusWatch::default(), font };
+    let mut watch = FileWatch { machine: Machine::new(), bus: BusWatch::default(), waking: WakingWatch::default(), font };
     if bus.is_empty() {
         counts.hit("file without records", &[]);
     }
@@ -72,6 +74,7 @@ fn bad_record(bytes: &[u8], counts: &mut Counts) {
 struct FileWatch<'a> {
     machine: Machine,
     bus: BusWatch,
+    waking: WakingWatch,
     font: &'a [u8],
 }
 
@@ -84,6 +87,7 @@ impl FileWatch<'_> {
                 let Machine { controller, memory } = &self.machine;
                 if limits::watch(controller, memory.len(), self.font.len(), counts) {
                     rows::watch_frame(controller, memory, self.font, frame, counts);
+                    self.waking.frame(&self.machine, self.font, frame, counts);
                 }
             }
         }
@@ -99,13 +103,17 @@ impl FileWatch<'_> {
         for (index, byte) in payload.iter().enumerate() {
             let before = self.machine.controller;
             let answer = self.machine.bus_write(index, *byte);
+            let after = self.machine.controller;
             if index == 0 {
                 self.bus.command_write(&before, *byte, answer, counts);
-                commanded = self.machine.controller;
+                sleep::command_write(&before, *byte, answer, &after, counts);
+                commanded = after;
             } else {
                 self.bus.data_write(&before, *byte, answer, counts);
+                sleep::data_write(&before, answer, &after, counts);
                 answers.push(answer);
             }
+            self.waking.write(&before, &after);
             match answer {
                 Err(number) => refused_before = number,
                 Ok(()) if refused_before != 0 => counts.hit("byte carried out after one of its record got #", &[refused_before]),

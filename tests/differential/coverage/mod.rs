@@ -9,5 +9,6 @@ mod limits;
 mod rows;
 mod runs;
 mod scrolling;
+mod waking;
 
 pub use files::watch_file;

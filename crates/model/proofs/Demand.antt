@@ -1,5 +1,5 @@
 -- Demand 3, whole.
-use Prim.Native.Nat.{ℕ, zero, suc}
+use Prim.Native.Nat.{ℕ}
 use mathlib.Core.Bool.{true}
 use mathlib.Core.Path.{refl}
 use lib.Dec.{lit<}
@@ -8,8 +8,9 @@ use Rattle.registers.specs.declared.Command.{Command}
 use Rattle.registers.specs.declared.Command.the-variants.{None, SystemSet, SleepIn, Disp, Scroll, CsrForm, CsrDir, Ovlay, CgramAdr, HdotScr, GrayScale, Csrw, Csrr, Mwrite, Mread}
 use Rattle.registers.specs.Parameters.{allowed, systemAllows, formAllows}
 use Rattle.registers.specs.Sizes.{memorySize}
-use Rattle.model.specs.Refresh.{All, Byte, AllValues, nine, Refresh}
+use Rattle.model.specs.Refresh.{Byte, AllValues, nine, Refresh}
 use Rattle.model.specs.Demand.{Demand3}
+use Rattle.model.proofs.Seen.{all-replicate}
 use Rattle.model.proofs.Settles.{settles}
 use Rattle.model.proofs.Needed.{needed}
 
@@ -32,10 +33,6 @@ values Csrr = tt
 values Mwrite = tt
 values Mread = tt
 
-all-zero : (n : ℕ) → All Byte (replicate n 0)
-all-zero zero = tt
-all-zero (suc n) = (lit< tt, all-zero n)
-
 pub a-refresh : Refresh
 unfolding values
 a-refresh =
@@ -46,7 +43,7 @@ a-refresh =
       order = nine;
       once = λ c. refl;
       memory = replicate memorySize 0;
-      memory-bytes = all-zero memorySize;
+      memory-bytes = all-replicate Byte 0 (lit< tt) memorySize;
       memory-full = length-replicate {A = ℕ} memorySize 0;
     }
 

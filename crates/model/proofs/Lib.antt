@@ -5,6 +5,7 @@ pub mod Seen
 pub mod Settles
 pub mod Needed
 pub mod Demand
+pub mod Waking
 pub mod Edges
 pub mod Strides
 pub mod WriteRuns

@@ -5,4 +5,5 @@ pub mod WriteRun
 pub mod Strides
 pub mod Refresh
 pub mod Demand
+pub mod Waking
 pub mod Edges

@@ -33,7 +33,11 @@ fn ignored(command: Command, asleep: bool) -> bool
 fn sleeps_dark(command: Command, on: bool) -> bool
     ensures { λ r. ⌜ r ≡ sleepsDark command on ⌝ }
 {
-    if command.is(Command::SleepIn) { !on } else { false }
+    if command.is(Command::SleepIn) {
+        !on
+    } else {
+        false
+    }
 }
 
 // How many reads a command gives, but for MREAD, whose reads have no end.

@@ -116,8 +116,8 @@ store command place b r =
     record {
       system = if command is SystemSet then storeSystem place b (r .system) else r .system;
       display =
-          if command is Disp then storeDisplay place b (r .display)
-          else if wakes command place r then withOn false (r .display)
+          if wakes command place r then withOn false (r .display)
+          else if command is Disp then storeDisplay place b (r .display)
           else r .display;
       blocks = if command is Scroll then storeBlocks place b (r .blocks) else r .blocks;
       form = if command is CsrForm then storeForm place b (r .form) else r .form;

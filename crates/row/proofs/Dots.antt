@@ -1,11 +1,11 @@
 -- The dots of the bytes that the stages leave are the dots that the definition gives. It knows no code.
 use Prim.Native.Nat.{ℕ, _+_, _-_, _*_, _/_, _%_, _<_}
-use mathlib.Core.Bool.{Bool, false, not, _&&_}
+use mathlib.Core.Bool.{Bool, false}
 use mathlib.Core.List.{List}
 use mathlib.Core.Path.{_≡_, sym, ap, _∙_}
 use native.Mathlib.Nat.{mod-lt, mod-eq-of-lt, div-eq-of-lt, div-lt-iff-lt-mul}
 use native.Mathlib.Omega.{arith}
-use lib.ListN.{getD}
+use lib.ListN.{getD, replicate, length-replicate, getD-replicate}
 use lib.Pow.{pow-pos}
 use Rattle.registers.specs.declared.Registers.{Registers}
 use Rattle.choice.specs.Choice.{if_then_else_}
@@ -15,13 +15,13 @@ use Rattle.dots.specs.Mixing.{mix}
 use Rattle.dots.specs.Bytes.{bitsPerDot, dotOf}
 use Rattle.dots.specs.MixedBytes.{mixByte, thirdMix}
 use Rattle.dots.specs.Expanded.{expandedDot}
-use Rattle.dots.proofs.Tables.{same-table, element}
+use Rattle.dots.proofs.Tables.{is-table, same-table, element}
 use Rattle.dots.proofs.MixedBytes.{mix-dots, mix-steps}
 use Rattle.row.specs.declared.LayerRow.{LayerRow}
 use Rattle.row.specs.declared.LayerRow.the-variants.{Nothing}
 use Rattle.row.specs.Layers.{threeLayers, layer1, layer2, layer3}
 use Rattle.row.specs.Cursor.{hasCursor, inverted}
-use Rattle.row.specs.Dots.{perColumn, shownColumns, width, layerByte, columnDot, composedDot, unscrolledDot, dot, dots}
+use Rattle.row.specs.Dots.{perColumn, shownColumns, width, layerByte, columnDot, composedDot, isShown, unscrolledDot, dot, dots}
 use Rattle.row.specs.Stages.{cursorByte, ColumnDots, Composable}
 use Rattle.row.proofs.Columns.{columns-fit, scroll-fits, in-unscrolled}
 use Rattle.row.proofs.CursorBytes.{cursor-dots}
@@ -101,8 +101,13 @@ module _ (r : Registers) (memory font : List ℕ) (frame n : ℕ) where
       (λ x l. all ((x + r .hdot) / p) ((x + r .hdot) % p) (div-lt-iff-lt-mul pos .1 (omega (arith, in-unscrolled (r .hdot) (r .system .cr) p (scroll-fits r h .0)))) (mod-lt (x + r .hdot) pos))
 
 -- the whole row: shown, or with D = 0 or asleep
-pub row-when : (r : Registers) (memory font : List ℕ) (frame n : ℕ) {t : Bool} → (r .display .on && not (r .asleep)) ≡ t
+pub row-when : (r : Registers) (memory font : List ℕ) (frame n : ℕ) {t : Bool} → isShown (r .display .on) (r .asleep) ≡ t
     → table (width r) (λ x. if t then composedDot r memory font frame n (x + r .hdot) else 0) ≡ dots r memory font frame n
 unfolding dots dot unscrolledDot
 row-when r memory font frame n e =
     same-table (width r) _ _ (λ x l. sym (ap (λ (b : Bool). if b then composedDot r memory font frame n (x + r .hdot) else 0) e))
+
+pub dark-row : (r : Registers) (memory font : List ℕ) (frame n : ℕ) → isShown (r .display .on) (r .asleep) ≡ false → dots r memory font frame n ≡ replicate (width r) 0
+dark-row r memory font frame n e =
+    let w = width r in
+    sym (is-table w (λ x. 0) (replicate w 0) (length-replicate w 0) (λ k l. getD-replicate w k 0 0 l) ∙ row-when r memory font frame n e)

@@ -1,6 +1,6 @@
 -- Reference, 'Rows', 'Width' and 'Scrolling'; 01, 'Blocks and layers of a row', and request #101: the dots of a row.
 use Prim.Native.Nat.{ℕ, _+_, _-_, _*_, _/_, _%_}
-use mathlib.Core.Bool.{not, _&&_}
+use mathlib.Core.Bool.{Bool, not, _&&_}
 use mathlib.Core.List.{List}
 use Rattle.registers.specs.declared.Code.{Code}
 use Rattle.registers.specs.declared.Registers.{Registers}
@@ -49,10 +49,13 @@ columnDot r memory font frame n c j =
 unfoldable pub composedDot : Registers → List ℕ → List ℕ → ℕ → ℕ → ℕ → ℕ
 composedDot r memory font frame n x = columnDot r memory font frame n (x / perColumn r) (x % perColumn r)
 
+-- whether the display shows dots: D = 1, and awake
+abbrev pub isShown : Bool → Bool → Bool
+isShown on asleep = on && not asleep
+
 -- with D = 0 or asleep, all dots are 0
 unfoldable pub unscrolledDot : Registers → List ℕ → List ℕ → ℕ → ℕ → ℕ → ℕ
-unscrolledDot r memory font frame n x =
-    if r .display .on && not (r .asleep) then composedDot r memory font frame n x else 0
+unscrolledDot r memory font frame n x = if isShown (r .display .on) (r .asleep) then composedDot r memory font frame n x else 0
 
 -- #101: scrolled by HDOT SCR's value, dot x is dot x + HDOT SCR of that row
 unfoldable pub dot : Registers → List ℕ → List ℕ → ℕ → ℕ → ℕ → ℕ

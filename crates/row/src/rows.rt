@@ -21,12 +21,11 @@ use registers::MEMORY_SIZE;
 use registers::Refusal;
 use registers::Registers;
 ghost use Prim.Native.Nat.{_+_, _≤_};
-ghost use mathlib.Core.Bool.{not, _&&_};
 ghost use mathlib.Core.Path.{_≡_};
 ghost use lib.ListN.{length};
 ghost use Rattle.registers.specs.Counts.{⁅_⁆};
 ghost use Rattle.dots.specs.Tables.{table};
-ghost use Rattle.row.specs.Dots.{width, composedDot, dots};
+ghost use Rattle.row.specs.Dots.{width, composedDot, isShown, dots};
 ghost use Rattle.row.specs.Rows.{frameSize, rowOutcome, composedOutcome};
 ghost use Rattle.row.specs.Stages.{ColumnDots, Sized, Composable};
 
@@ -86,7 +85,7 @@ fn line_buffer() -> [u8; 256]
 }
 
 fn is_shown(on: bool, asleep: bool) -> bool
-    ensures { λ b. ⌜ b ≡ (on && not asleep) ⌝ }
+    ensures { λ b. ⌜ b ≡ isShown on asleep ⌝ }
 {
     if on {
         return !asleep;

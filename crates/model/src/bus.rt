@@ -84,19 +84,12 @@ impl Controller {
         self
     }
 
-    // The pending command ended.
-    fn ended(self) -> Controller
-        ensures { λ r. ⌜ r ≡ ended self ⌝ }
-    {
-        self.with_pending(Command::None)
-    }
-
     // Refused, and the pending command ended.
     fn end_refused(self, refusal: Refusal) -> Written
         ensures { λ r. ⌜ ((memory : List ℕ) → writtenOutcome r memory ≡ refuse (number refusal) (ended self) memory) ⌝ }
     {
         Written {
-            controller: self.ended(),
+            controller: self.with_pending(Command::None),
             answer: Answer::Refused(refusal),
         }
     }

@@ -34,10 +34,9 @@ fn sleeps_dark(command: Command, on: bool) -> bool
     ensures { λ r. ⌜ r ≡ sleepsDark command on ⌝ }
 {
     if command.is(Command::SleepIn) {
-        !on
-    } else {
-        false
+        return !on;
     }
+    false
 }
 
 // How many reads a command gives, but for MREAD, whose reads have no end.

@@ -147,6 +147,7 @@ impl Registers {
             Command::SystemSet => {
                 self.system = self.system.store(place, b);
                 if place == 0 {
+                    // It wakes the chip, and the display stays off until DISP ON.
                     if self.asleep {
                         self.asleep = false;
                         self.display.on = false;

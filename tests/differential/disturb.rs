@@ -114,7 +114,7 @@ fn small_list(code: u8, random: &mut Random) -> Vec<u8> {
     list
 }
 
-/// SLEEP IN with the display off, mostly while a command wants data or has something to read, and then both (#102).
+/// SLEEP IN with the display off, mostly while a command wants data or has something to read; data and a read after it (#102).
 fn refused_sleep(records: &mut Records, random: &mut Random) {
     records.command(DISP_OFF, &[]);
     if random.chance(85) {

@@ -23,7 +23,7 @@ use Rattle.row.specs.Dots.{dotsPerColumn, shownColumns, width}
 use Rattle.row.specs.Refusals.{greyMode, smoothScroll, oddLines, layerOrder, cursorShape, rowRefusal}
 use Rattle.row.specs.Rows.{rowAnswer}
 use Rattle.model.specs.Machine.{Machine, Outcome, accept, refuse}
-use Rattle.model.specs.Bus.{ignored, sleepsDark, commandWrite, served, accessed, dataWrite, dataRead, writeParameter, writeMemory}
+use Rattle.model.specs.Bus.{ignored, displayOff, commandWrite, served, accessed, dataWrite, dataRead, writeParameter, writeMemory}
 use Rattle.model.specs.Calls.{BusCall, command, write, read, call, after, reset}
 use Rattle.model.specs.Refresh.{All}
 use Rattle.model.specs.Edges.{Edge, observed, edges, EdgesHold}
@@ -78,5 +78,5 @@ module _ (memory : List ℕ) (full : length memory ≡ memorySize) where
 
 -- it computes but for the memory: its length, and the byte that was stored in it
 pub edges-hold : EdgesHold
-unfolding commandOf begin store storeSystem storeDisplay storeBlocks storeForm storeOverlay directionOf withLow withHigh allowed systemAllows formAllows nextAddress ignored sleepsDark commandWrite served writeParameter inLayout field rowAnswer rowRefusal greyMode smoothScroll oddLines layerOrder cursorShape threeLayers width shownColumns dotsPerColumn isLit flashing isOn glyphOf
+unfolding commandOf begin store storeSystem storeDisplay storeBlocks storeForm storeOverlay directionOf withLow withHigh allowed systemAllows formAllows nextAddress ignored displayOff commandWrite served writeParameter inLayout field rowAnswer rowRefusal greyMode smoothScroll oddLines layerOrder cursorShape threeLayers width shownColumns dotsPerColumn isLit flashing isOn glyphOf
 edges-hold memory full = all-hold memory full edges (simp (getD-set-same memory 0x7FFF 0xA5 0 (omega arith), full) tt)

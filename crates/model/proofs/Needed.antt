@@ -24,7 +24,7 @@ use Rattle.registers.proofs.Codes.{is-same}
 use Rattle.model.specs.declared.Pending.{Pending}
 use Rattle.model.specs.declared.Controller.{Controller}
 use Rattle.model.specs.Machine.{Machine, Outcome, machine, controller}
-use Rattle.model.specs.Bus.{ignored, sleepsDark, commandWrite, served, dataWrite, writeParameter}
+use Rattle.model.specs.Bus.{ignored, displayOff, commandWrite, served, dataWrite, writeParameter}
 use Rattle.model.specs.Calls.{BusCall, command, write, after, reset}
 use Rattle.model.specs.Refresh.{All, Byte, occurrences, nine, eleven, Refresh, send, sends, without}
 use Rattle.model.specs.Demand.{OnBus, Accepted, Only7, Prior, reached, rest, Differ, EachNeeded}
@@ -89,7 +89,7 @@ module _ (memory : List ℕ) (full : length memory ≡ memorySize) where
   stored c = controller (store c 0 (probeByte c) (begin c (probeCode c) resetRegisters)) c 1
 
   probed : (c : Command) → Ten c → Probed memory c
-  unfolding commandWrite commandOf ignored sleepsDark served dataWrite writeParameter begin store storeSystem storeDisplay storeBlocks storeForm storeOverlay directionOf withLow allowed systemAllows formAllows
+  unfolding commandWrite commandOf ignored displayOff served dataWrite writeParameter begin store storeSystem storeDisplay storeBlocks storeForm storeOverlay directionOf withLow allowed systemAllows formAllows
   probed =
       of-ten (Probed memory)
       (record {

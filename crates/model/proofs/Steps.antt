@@ -21,7 +21,7 @@ use Rattle.registers.specs.Cursor.{nextAddress, withCursor}
 use Rattle.registers.specs.Sizes.{memorySize}
 use Rattle.model.specs.declared.Controller.{Controller}
 use Rattle.model.specs.Machine.{Machine, machine, accept, controller}
-use Rattle.model.specs.Bus.{ignored, sleepsDark, commandWrite, served, dataWrite, writeParameter, writeMemory}
+use Rattle.model.specs.Bus.{ignored, displayOff, commandWrite, served, dataWrite, writeParameter, writeMemory}
 use Rattle.model.specs.Calls.{command, write, call}
 use Rattle.model.specs.Refresh.{Values, bytes}
 use Rattle.model.specs.Demand.{Accepted, Only7}
@@ -46,7 +46,7 @@ takes-stored c place b x = go (c is SystemSet) (place =? 0)
 -- a command byte that is taken
 pub begun : (c : Command) (b : ℕ) → commandOf b ≡ c → (c is None) ≡ false → (c is SleepIn) ≡ false → (s : Controller) (memory : List ℕ) → Takes c (s .registers)
     → call (machine s memory) (command b) ≡ accept (controller (begin c b (s .registers)) c 0) memory
-unfolding commandWrite sleepsDark
+unfolding commandWrite displayOff
 begun c b e n w s memory t = rw (e, n, t, w)
 
 -- a parameter that is wanted and allowed

@@ -18,8 +18,8 @@ unfoldable pub ignored : Command → Bool → Bool
 ignored command asleep = not (command is SystemSet) && asleep
 
 -- #102: SLEEP IN with D = 0
-unfoldable pub sleepsDark : Command → Bool → Bool
-sleepsDark command on = command is SleepIn && not on
+unfoldable pub displayOff : Command → Bool → Bool
+displayOff command on = command is SleepIn && not on
 
 -- An accepted command byte replaces the pending command; parameters already taken stay. A command write tests 2, 5, 19.
 unfoldable pub commandWrite : Machine → ℕ → Outcome
@@ -28,7 +28,7 @@ commandWrite m b =
     let command = commandOf b in
     if command is None then refuse 2 (ended c) (m .memory)
     else if ignored command (c .registers .asleep) then refuse 5 (ended c) (m .memory)
-    else if sleepsDark command (c .registers .display .on) then refuse 19 (ended c) (m .memory)
+    else if displayOff command (c .registers .display .on) then refuse 19 (ended c) (m .memory)
     else accept (controller (begin command b (c .registers)) command 0) (m .memory)
 
 -- asleep, a pending command other than 40h wants nothing and has nothing to read

@@ -15,7 +15,7 @@ ghost use mathlib.Core.List.{List};
 ghost use mathlib.Core.Path.{_≡_};
 ghost use Rattle.registers.specs.Refusals.{number};
 ghost use Rattle.model.specs.Machine.{resetController, machine, refuse, writtenOutcome, readOutcome, withPending, ended};
-ghost use Rattle.model.specs.Bus.{ignored, sleepsDark, served, commandWrite, dataWrite, cursorReads, addressByte, dataRead};
+ghost use Rattle.model.specs.Bus.{ignored, displayOff, served, commandWrite, dataWrite, cursorReads, addressByte, dataRead};
 ghost use Rattle.model.specs.WriteRun.{runOutcome, writeRunOutcome};
 
 // Whether a command is neither taken nor served: asleep, any but SYSTEM SET.
@@ -30,8 +30,8 @@ fn ignored(command: Command, asleep: bool) -> bool
 }
 
 // Whether a command is SLEEP IN with the display off: it is to be on before sleep.
-fn sleeps_dark(command: Command, on: bool) -> bool
-    ensures { λ r. ⌜ r ≡ sleepsDark command on ⌝ }
+fn display_off(command: Command, on: bool) -> bool
+    ensures { λ r. ⌜ r ≡ displayOff command on ⌝ }
 {
     if command.is(Command::SleepIn) {
         return !on;
@@ -116,7 +116,7 @@ impl Controller {
         if ignored(command, self.registers.asleep) {
             return self.end_refused(Refusal::Asleep);
         }
-        if sleeps_dark(command, self.registers.display.on) {
+        if display_off(command, self.registers.display.on) {
             return self.end_refused(Refusal::DisplayOff);
         }
         self.registers = self.registers.begin(command, b);

@@ -1,5 +1,5 @@
--- Reference, 'Commands' and 'Reset'; 01, the command table and reset: what each parameter sets and which values it allows, what a
--- command byte sets at once, and what reset leaves. Written by field: where it stands in its command's list (P1 is place 0), and
+-- Reference, 'Commands' and 'Reset'; 01, the command table and reset, and request #102: what each parameter sets and which values it
+-- allows, what a command byte sets at once, and what reset leaves. Written by field: where it stands in its command's list (P1 is place 0), and
 -- which bits it is.
 use Prim.Native.Nat.{ℕ, _+_, _-_, _*_, _/_, _%_, _^_}
 use mathlib.Core.Bool.{Bool, true, false, not, _&&_}
@@ -62,7 +62,7 @@ storeSystem place b s =
       ap = storeWord 6 place b (s .ap);
     }
 
--- D set
+-- D set to a value
 abbrev pub withOn : Bool → Display → Display
 withOn on d = record { on = on; fp = d .fp; fc = d .fc }
 

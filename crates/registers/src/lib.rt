@@ -62,7 +62,7 @@ pub struct System {
     pub ap: u16,
 }
 
-// DISP OFF and DISP ON: D, and the flashing of the blocks and of the cursor.
+// DISP OFF and DISP ON: D, which waking clears too, and the flashing of the blocks and of the cursor.
 pub struct Display {
     pub on: bool,
     pub fp: u8,

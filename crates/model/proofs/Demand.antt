@@ -10,7 +10,7 @@ use Rattle.registers.specs.Parameters.{allowed, systemAllows, formAllows}
 use Rattle.registers.specs.Sizes.{memorySize}
 use Rattle.model.specs.Refresh.{Byte, AllValues, nine, Refresh}
 use Rattle.model.specs.Demand.{Demand3}
-use Rattle.model.proofs.Seen.{all-replicate}
+use Rattle.model.proofs.Runs.{all-replicate}
 use Rattle.model.proofs.Settles.{settles}
 use Rattle.model.proofs.Needed.{needed}
 

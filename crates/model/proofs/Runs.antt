@@ -1,7 +1,8 @@
 -- Runs: a list of calls that leads from one machine to another, every answer having a property. The memory keeps its size.
+use Prim.Native.Nat.{ℕ, zero, suc}
 use mathlib.Core.List.{List, [], _∷_, _++_}
 use mathlib.Core.Path.{_≡_, refl, sym, subst, _∙_}
-use lib.ListN.{length, length-set}
+use lib.ListN.{length, replicate, length-set}
 use Rattle.choice.proofs.Cases.{choose}
 use Rattle.model.specs.Machine.{Machine, Outcome}
 use Rattle.model.specs.Bus.{commandWrite, writeMemory, writeParameter, dataWrite, readMemory, readCursor, dataRead}
@@ -36,6 +37,10 @@ all-weaker f (o ∷ os) h = (f o (h .0), all-weaker f os (h .1))
 
 pub runs-weaker : {P Q : Outcome → Type 0} → ((o : Outcome) → P o → Q o) → {m m′ : Machine} {cs : List BusCall} → Runs P m cs m′ → Runs Q m cs m′
 runs-weaker f {m} {cs = cs} h = record { leads = h .leads; answered = all-weaker f (outcomes m cs) (h .answered) }
+
+pub all-replicate : {A : Type 0} (P : A → Type 0) (x : A) → P x → (n : ℕ) → All P (replicate n x)
+all-replicate P x p zero = tt
+all-replicate P x p (suc n) = (p, all-replicate P x p n)
 
 abbrev SameSize : Machine → Outcome → Type 0
 SameSize m o = length (o .machine .memory) ≡ length (m .memory)

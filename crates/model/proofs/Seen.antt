@@ -1,10 +1,9 @@
 -- Which commands a list has, whatever their order.
-use Prim.Native.Nat.{ℕ, zero, suc, _<_}
+use Prim.Native.Nat.{_<_}
 use mathlib.Core.Bool.{Bool, true, false, _||_, or-true}
 use mathlib.Core.List.{List, [], _∷_}
 use mathlib.Core.Path.{_≡_, refl, _∙_}
 use native.Mathlib.Omega.{arith}
-use lib.ListN.{replicate}
 use borrow.Author.Tests.{eq-eqb}
 use Rattle.registers.specs.declared.Command.{Command}
 use Rattle.registers.specs.Commands.{code, _is_}
@@ -58,7 +57,3 @@ all-without P c (d ∷ ds) h = go (c is d) refl (all-without P c ds (h .1))
     go : (t : Bool) → (c is d) ≡ t → All P (without c ds) → All P (without c (d ∷ ds))
     go true e k = rw e k
     go false e k = rw e (h .0, k)
-
-pub all-replicate : {A : Type 0} (P : A → Type 0) (x : A) → P x → (n : ℕ) → All P (replicate n x)
-all-replicate P x p zero = tt
-all-replicate P x p (suc n) = (p, all-replicate P x p n)

@@ -24,7 +24,11 @@ use Rattle.model.specs.Bus.{ignored, displayOff, commandWrite, writeMemo
 use Rattle.model.specs.Calls.{BusCall, command, write, read, call, after, reset}
 use Rattle.model.specs.Refresh.{All}
 use Rattle.model.specs.Waking.{Dark, NotOn, NoneOn, ShowsNothing, DarkUntilOn, OnWhileAsleep}
-use Rattle.model.proofs.Seen.{all-replicate}
+use Rattle.model.proofs.Runs.{all-replicate}
+
+-- what a call leaves in the registers
+abbrev Left : (Registers → Type 0) → Outcome → Type 0
+Left P o = P (o .machine .controller .registers)
 
 -- a parameter leaves D and sleep as they are, or ends both
 store-flags : (P : Bool → Bool → Type 0) → P false false → (c : Command) (place b : ℕ) (r : Registers) → P (r .display .on) (r .asleep)
@@ -39,9 +43,6 @@ store-flags P ends c place b r stays = go (wakes c place r) (c is Disp)
 
 -- Nothing shows until DISP ON is accepted
 
-abbrev LeftDark : Outcome → Type 0
-LeftDark o = Dark (o .machine .controller .registers)
-
 -- a command byte turns nothing on, but for DISP ON
 begin-dark : (c : Command) (b : ℕ) (r : Registers) → (b =? 0x59) ≡ false → Dark r → Dark (begin c b r)
 unfolding begin
@@ -53,23 +54,23 @@ begin-dark c b r n d = go (c is Disp) (c is SleepIn)
     go false false = d
 
 -- DISP ON asleep, which gets 5; awake it is accepted
-on-dark : (m : Machine) → call m (command 0x59) .reply .refusal ≢ 0 → LeftDark (call m (command 0x59))
+on-dark : (m : Machine) → call m (command 0x59) .reply .refusal ≢ 0 → Left Dark (call m (command 0x59))
 unfolding commandWrite commandOf ignored displayOff
 on-dark m n = go (m .controller .registers .asleep) refl
   where
-    go : (s : Bool) → m .controller .registers .asleep ≡ s → LeftDark (call m (command 0x59))
+    go : (s : Bool) → m .controller .registers .asleep ≡ s → Left Dark (call m (command 0x59))
     go true e = rw e (and-false (m .controller .registers .display .on))
     go false e = absurd (n (rw e))
 
-call-dark : (m : Machine) (c : BusCall) → NotOn m c → Dark (m .controller .registers) → LeftDark (call m c)
+call-dark : (m : Machine) (c : BusCall) → NotOn m c → Dark (m .controller .registers) → Left Dark (call m c)
 unfolding commandWrite dataWrite writeMemory writeParameter dataRead readMemory readCursor
 call-dark m (command b) n d = go (b =? 0x59) refl
   where
-    go : (t : Bool) → (b =? 0x59) ≡ t → LeftDark (call m (command b))
-    go true e = let same = eqb-true b 0x59 e in subst (λ (k : ℕ). LeftDark (call m (command k))) (sym same) (on-dark m (subst (λ (k : ℕ). call m (command k) .reply .refusal ≢ 0) same (n (ap command same))))
-    go false e = search (choose LeftDark, begin-dark) depth 12
-call-dark m (write b) n d = search (choose LeftDark, store-flags (λ on asleep. isShown on asleep ≡ false) refl) depth 12
-call-dark m read n d = search (choose LeftDark) depth 12
+    go : (t : Bool) → (b =? 0x59) ≡ t → Left Dark (call m (command b))
+    go true e = let same = eqb-true b 0x59 e in subst (λ (k : ℕ). Left Dark (call m (command k))) (sym same) (on-dark m (subst (λ (k : ℕ). call m (command k) .reply .refusal ≢ 0) same (n (ap command same))))
+    go false e = search (choose (Left Dark), begin-dark) depth 12
+call-dark m (write b) n d = search (choose (Left Dark), store-flags (λ on asleep. isShown on asleep ≡ false) refl) depth 12
+call-dark m read n d = search (choose (Left Dark)) depth 12
 
 after-dark : (m : Machine) (cs : List BusCall) → NoneOn m cs → Dark (m .controller .registers) → Dark (after m cs .controller .registers)
 after-dark m [] n d = d
@@ -88,20 +89,16 @@ dark-until-on m d cs n = shows-nothing (after m cs) (after-dark m cs n d)
 
 -- The display is on before sleep
 
--- not asleep with D = 0
-abbrev Ready : Registers → Type 0
-Ready r = (not (r .display .on) && r .asleep) ≡ false
+abbrev OnIfAsleep : Registers → Type 0
+OnIfAsleep r = (not (r .display .on) && r .asleep) ≡ false
 
-abbrev LeftReady : Outcome → Type 0
-LeftReady o = Ready (o .machine .controller .registers)
-
--- SLEEP IN is taken with D = 1 alone, DISP awake alone
-begin-ready : (c : Command) (b : ℕ) (r : Registers) → ignored c (r .asleep) ≡ false → displayOff c (r .display .on) ≡ false → Ready r → Ready (begin c b r)
+-- SLEEP IN is taken only with D = 1, DISP only awake
+begin-on : (c : Command) (b : ℕ) (r : Registers) → ignored c (r .asleep) ≡ false → displayOff c (r .display .on) ≡ false → OnIfAsleep r → OnIfAsleep (begin c b r)
 unfolding begin ignored displayOff
-begin-ready c b r = go (c is Disp) (c is SleepIn) refl refl
+begin-on c b r = go (c is Disp) (c is SleepIn) refl refl
   where
     Taken : Command → Type 0
-    Taken c = ignored c (r .asleep) ≡ false → displayOff c (r .display .on) ≡ false → Ready r → Ready (begin c b r)
+    Taken c = ignored c (r .asleep) ≡ false → displayOff c (r .display .on) ≡ false → OnIfAsleep r → OnIfAsleep (begin c b r)
 
     disp : Taken Disp
     disp awake w k = rw (awake, and-false)
@@ -114,18 +111,18 @@ begin-ready c b r = go (c is Disp) (c is SleepIn) refl refl
     go false true e f = subst Taken (sym (is-same c SleepIn f)) sleep
     go false false e f = λ i w k. rw (e, f) k
 
-call-ready : (m : Machine) (c : BusCall) → Ready (m .controller .registers) → LeftReady (call m c)
+call-on : (m : Machine) (c : BusCall) → OnIfAsleep (m .controller .registers) → Left OnIfAsleep (call m c)
 unfolding commandWrite dataWrite writeMemory writeParameter dataRead readMemory readCursor
-call-ready m (command b) k = search (choose LeftReady, begin-ready) depth 12
-call-ready m (write b) k = search (choose LeftReady, store-flags (λ on asleep. (not on && asleep) ≡ false) refl) depth 12
-call-ready m read k = search (choose LeftReady) depth 12
+call-on m (command b) k = search (choose (Left OnIfAsleep), begin-on) depth 12
+call-on m (write b) k = search (choose (Left OnIfAsleep), store-flags (λ on asleep. (not on && asleep) ≡ false) refl) depth 12
+call-on m read k = search (choose (Left OnIfAsleep)) depth 12
 
-after-ready : (m : Machine) (cs : List BusCall) → Ready (m .controller .registers) → Ready (after m cs .controller .registers)
-after-ready m [] k = k
-after-ready m (c ∷ cs) k = after-ready (call m c .machine) cs (call-ready m c k)
+after-on : (m : Machine) (cs : List BusCall) → OnIfAsleep (m .controller .registers) → OnIfAsleep (after m cs .controller .registers)
+after-on m [] k = k
+after-on m (c ∷ cs) k = after-on (call m c .machine) cs (call-on m c k)
 
 pub on-while-asleep : OnWhileAsleep
-on-while-asleep memory cs e = go (r .display .on) (after-ready (reset memory) cs refl)
+on-while-asleep memory cs e = go (r .display .on) (after-on (reset memory) cs refl)
   where
     r : Registers
     r = after (reset memory) cs .controller .registers

@@ -125,7 +125,7 @@ edges =
     ∷ edge (columns 80 84) (write 0) (row0 648) 11
     -- 2 bits and 80 give 320
     ∷ edge (twoBits ++ columns 79 83) (write 0) (row0 320) 0
-    -- asleep, 59h: 5 (#102: it sleeps with D = 1 alone)
+    -- asleep, 59h: 5 (#102: it sleeps only with D = 1)
     ∷ edge (sending 0x59 [] ++ sending 0x53 []) (command 0x59) refusal 5
     ∷ []
 

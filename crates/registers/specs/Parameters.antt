@@ -1,6 +1,6 @@
 -- Reference, 'Commands' and 'Reset'; 01, the command table and reset, and request #102: what each parameter sets and which values it
--- allows, what a command byte sets at once, and what reset leaves. Written by field: where it stands in its command's list (P1 is place 0), and
--- which bits it is.
+-- allows, what a command byte sets at once, and what reset leaves. Written by field: where it stands in its command's list (P1 is
+-- place 0), and which bits it is.
 use Prim.Native.Nat.{ℕ, _+_, _-_, _*_, _/_, _%_, _^_}
 use mathlib.Core.Bool.{Bool, true, false, not, _&&_}
 use Rattle.choice.specs.Choice.{if_then_else_, _=?_}

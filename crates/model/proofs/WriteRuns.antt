@@ -9,7 +9,7 @@ use lib.Dec.{T}
 use lib.ListN.{length, set, take, length-set}
 use borrow.Author.Tests.{eq-eqb}
 use Rattle.choice.specs.Choice.{if_then_else_, _<?_}
-use Rattle.choice.proofs.Cases.{choose}
+use Rattle.choice.proofs.Cases.{choose, both-true}
 use Rattle.registers.specs.declared.Command.the-variants.{Mwrite}
 use Rattle.registers.specs.Commands.{_is_}
 use Rattle.registers.specs.Refusals.{accepted, refused}
@@ -23,14 +23,12 @@ use Rattle.model.specs.WriteRun.{stores, runLength, RunOutcome, runOutco
 use Rattle.model.specs.Strides.{StoredOutcome, storedFrom}
 use Rattle.model.proofs.Steps.{at, next}
 
-all-true : (x y z : Bool) → (x && y && z) ≡ true → (x ≡ true) × (y ≡ true) × (z ≡ true)
-all-true true true z h = (refl, refl, h)
-all-true true false z h = absurd (subst T (sym h) tt)
-all-true false y z h = absurd (subst T (sym h) tt)
-
 stored : (m : Machine) (b : ℕ) → stores m ≡ true → dataWrite m b ≡ accept (accessed (m .controller)) (set (m .memory) (m .controller .registers .cursor .address) b)
 unfolding stores dataWrite writeMemory
-stored m b h = let t = all-true (sized m) (served (m .controller) is Mwrite) (inside m) h in rw (t .0, t .1, t .2)
+stored m b h =
+    let t = both-true (sized m && served (m .controller) is Mwrite) (inside m) h in
+    let u = both-true (sized m) (served (m .controller) is Mwrite) (t .0) in
+    rw (u .0, u .1, t .1)
 
 stores-accepted : (m : Machine) (b : ℕ) → stores m ≡ true → dataWrite m b .reply ≡ accepted
 stores-accepted m b h = rw (stored m b h)

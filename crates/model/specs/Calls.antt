@@ -16,6 +16,11 @@ pub data BusCall : Type 0 where
 abbrev pub sending : ℕ → List ℕ → List BusCall
 sending code bs = command code ∷ map write bs
 
+-- the same as bytes, the command's code first
+abbrev pub busCalls : List ℕ → List BusCall
+busCalls [] = []
+busCalls (b ∷ bs) = sending b bs
+
 abbrev pub call : Machine → BusCall → Outcome
 call m (command b) = commandWrite m b
 call m (write b) = dataWrite m b

@@ -12,6 +12,7 @@ use Rattle.registers.specs.declared.Answer.{Answer}
 use Rattle.registers.specs.declared.Refusal.{Refusal}
 use Rattle.registers.specs.declared.Refusal.the-variants.{MemorySize, FontSize}
 use Rattle.registers.specs.declared.Registers.{Registers}
+use Rattle.choice.proofs.Cases.{choose}
 use Rattle.choice.specs.Choice.{if_then_else_, _<?_, _≤?_, _=?_}
 use Rattle.registers.specs.Counts.{⁅_⁆}
 use Rattle.registers.specs.Refusals.{number, reply}
@@ -52,14 +53,14 @@ scroll-passed r e ne = go (r .hdot =? 0) (r .grey =? 0) (⁅ r .system .fx ⁆ �
     go false true true c h a b d k = absurd (subst T k tt)
     go false false f c h a b d k = absurd (subst T k tt)
 
--- a grey code as it is read
+-- a field as it is read
+pub field-below : (limit v : ℕ) → 0 < limit → field limit v < limit
+unfolding field
+field-below limit v h = choose (λ (k : ℕ). k < limit) (v <? limit) v 0 (ltb-true v limit) (λ e. h)
+
 pub grey-code : (registers : Registers) → inLayout registers .grey < 3
-unfolding inLayout field
-grey-code registers = go (registers .grey <? 3) (ltb-true (registers .grey) 3)
-  where
-    go : (b : Bool) → (b ≡ true → registers .grey < 3) → (if b then registers .grey else 0) < 3
-    go true f = f refl
-    go false f = omega arith
+unfolding inLayout
+grey-code registers = field-below 3 (registers .grey) (omega arith)
 
 -- what a row with no refusal has passed
 record Passed (r : Registers) (memoryLength fontLength n bufferLength : ℕ) : Type 0 where

@@ -5,6 +5,7 @@ use crate::glyphs::fetch;
 use crate::glyphs::glyph_byte;
 use crate::layers::is_text;
 use crate::layers::sad;
+use dots::clear;
 use registers::Registers;
 ghost use Prim.Native.Nat.{_+_, _≤_};
 ghost use mathlib.Core.Path.{_≡_};
@@ -21,17 +22,6 @@ pub fn line_address(start: u16, pitch: u16, q: u16) -> u16
 {
     let down = (q as u32 * pitch as u32 % 65536) as u16;
     std::num::wrapping_add_u16(start, down)
-}
-
-// Zeros.
-pub fn clear(line: &mut [u8])
-    ensures { λ _. ⌜ now (line .exit) ≡ table (length (now (line .entry))) (λ c. 0) ⌝ }
-{
-    let mut i: usize = 0;
-    while i < line.len() {
-        line[i] = 0;
-        i += 1;
-    }
 }
 
 // The bytes from an address on: one copy, unless they reach past the end of memory or of the addresses.

@@ -27,6 +27,6 @@ pub enum Glyph {
 
 // The dots of a row, and the rows of a frame.
 pub struct FrameSize {
-    pub width: usize,
+    pub width: u16,
     pub rows: Count,
 }

@@ -1,7 +1,6 @@
 // A row of dots.
 use crate::FrameSize;
 use crate::cursor::invert;
-use crate::fetching::clear;
 use crate::fetching::layer_bytes;
 use crate::layers::layer1;
 use crate::layers::layer2;
@@ -12,6 +11,7 @@ use crate::width::columns;
 use crate::width::dots_per_column;
 use crate::width::row_width;
 use crate::width::shown_columns;
+use dots::clear;
 use dots::expand_scrolled;
 use dots::mix_bytes;
 use dots::third_mix;
@@ -113,8 +113,9 @@ pub fn frame_size(registers: Registers) -> FrameSize
 {
     let r = registers.in_layout();
     let s = r.system;
+    let width = row_width(r.hdot, s.cr, dots_per_column(r.grey, s.fx));
     FrameSize {
-        width: row_width(r.hdot, s.cr, dots_per_column(r.grey, s.fx)),
+        width: width as u16,
         rows: s.lf.count(),
     }
 }

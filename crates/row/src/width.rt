@@ -38,7 +38,7 @@ pub fn shown_columns(hdot: u8, cr: Code) -> usize
 
 // How many dots they have.
 pub fn row_width(hdot: u8, cr: Code, per: u16) -> usize
-    ensures { λ w. ⌜ w ≡ shownColumns hdot cr * per ⌝ }
+    ensures { λ w. ⌜ (w ≡ shownColumns hdot cr * per) × (w ≤ 256 * per) ⌝ }
 {
     shown_columns(hdot, cr) * per as usize
 }

@@ -11,12 +11,12 @@ use lib.ListN.{length, getD, take, drop, replicate, take-append-drop}
 use lib.Seq.{drop-cons, drop-drop, length-take-le}
 use Rattle.registers.specs.Refusals.{accepted}
 use Rattle.model.specs.Machine.{Machine, Outcome}
-use Rattle.model.specs.Calls.{BusCall, command, write, read, call, after, outcomes}
+use Rattle.model.specs.Calls.{BusCall, command, write, read, busCalls, call, after, outcomes}
 use Rattle.model.specs.Refresh.{All}
 use Rattle.model.specs.WriteRun.{runLength, RunOutcome, runOutcome}
 use Rattle.model.proofs.WriteRuns.{run-within, run-accepted}
 use Rattle.session.specs.Output.{Buffer, printedAll, flushes, OpenAfter}
-use Rattle.session.specs.Records.{busCalls, callLines}
+use Rattle.session.specs.Records.{callLines}
 use Rattle.session.specs.Carrying.{Live, CarriesOutCalls}
 use Rattle.session.proofs.Buffers.{printed-both, flushes-both, open-both}
 

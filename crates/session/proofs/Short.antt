@@ -18,14 +18,14 @@ use Rattle.row.specs.Refusals.{rowRefusal}
 use Rattle.row.specs.Rows.{RowAnswer, rowAnswer, frameSize}
 use Rattle.row.proofs.Accepting.{accepted-width}
 use Rattle.model.specs.Bus.{commandWrite, dataWrite, dataRead, writeMemory, writeParameter, readMemory, readCursor}
-use Rattle.model.specs.Calls.{BusCall, command, write, read, call}
+use Rattle.model.specs.Calls.{BusCall, command, write, read, busCalls, call}
 use Rattle.model.specs.Machine.{Machine, Outcome}
 use Rattle.model.specs.Refresh.{All, Byte}
 use Rattle.busfile.specs.declared.Kind.the-variants.{Bus, Reads, Frame}
 use Rattle.busfile.specs.Records.{wordOf, doubleWordOf}
 use Rattle.lines.specs.Lines.{ascii, refusedLine, readLine, frameLine}
 use Rattle.lines.proofs.Lengths.{Small, line-length, row-length}
-use Rattle.session.specs.Records.{busCalls, writeReplyLines, readReplyLines, callLines, callsLines, rowLines, framed, frameLines}
+use Rattle.session.specs.Records.{writeReplyLines, readReplyLines, callLines, callsLines, rowLines, framed, frameLines}
 use Rattle.session.specs.Stream.{Short, LinesShort}
 
 -- The number of a refusal fits in a byte

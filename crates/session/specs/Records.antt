@@ -6,7 +6,7 @@ use Rattle.choice.specs.Choice.{if_then_else_, _=?_}
 use Rattle.registers.specs.Refusals.{Reply}
 use Rattle.row.specs.Rows.{RowAnswer, rowAnswer, frameSize}
 use Rattle.model.specs.Machine.{Machine, machine}
-use Rattle.model.specs.Calls.{BusCall, command, write, read, sending, call, after}
+use Rattle.model.specs.Calls.{BusCall, command, write, read, busCalls, call, after}
 use Rattle.busfile.specs.declared.Kind.{Kind}
 use Rattle.busfile.specs.declared.Kind.the-variants.{Bus, Reads, Frame}
 use Rattle.busfile.specs.Records.{wordOf, doubleWordOf}
@@ -15,10 +15,6 @@ use Rattle.session.specs.declared.Session.{Session}
 use Rattle.session.specs.Output.{Buffer, buffer, printedAll}
 
 -- The calls of a record: a command byte, then its data writes; a count of reads
-
-abbrev pub busCalls : List ℕ → List BusCall
-busCalls [] = []
-busCalls (b ∷ bs) = sending b bs
 
 abbrev pub recordCalls : Kind → List ℕ → List BusCall
 recordCalls Bus payload = busCalls payload

@@ -99,7 +99,7 @@ pub fn show(
 {
     let mut row = [0u8; 640];
     let size = row::frame_size(s.controller.registers);
-    let width = at_most(size.width, &row);
+    let width = at_most(size.width as usize, &row);
     let rows = size.rows;
     let frame = Frame {
         record: record,

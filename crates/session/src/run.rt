@@ -9,8 +9,7 @@ use registers::Answer;
 ghost use Prim.Native.Nat.{ℕ, _<_};
 ghost use mathlib.Core.List.{List, [], _∷_, map};
 ghost use lib.ListN.{length, drop, replicate};
-ghost use Rattle.model.specs.Calls.{command, write, read};
-ghost use Rattle.session.specs.Records.{busCalls};
+ghost use Rattle.model.specs.Calls.{command, write, read, busCalls};
 ghost use Rattle.session.specs.Carrying.{live, CarriesOutCalls, CarriesOutRecord};
 
 // The command byte of a kind 1 record.

@@ -14,7 +14,7 @@ use Rattle.row.proofs.refusals.row_answer.Tie as tie
 -- the width that is tested
 wide : (c : tie.After-row-width) → c .row-width .result ≡ width (c .before .before .before .args .r)
 unfolding width
-wide c = rw (c .row-width .ensures, c .before .dots-per-column .ensures)
+wide c = rw (c .row-width .ensures .0, c .before .dots-per-column .ensures)
 
 -- the state behind the width, from each test on
 abbrev at1 : tie.Else1 → tie.After-row-width

@@ -11,7 +11,7 @@ returns : tie.Need-returns
 returns c =
     let f = c .before .before .before in
     let w = f .before .before .before .before in
-    let z = w .before .before in
+    let z = w .before .before .before in
     let a = z .before .before .before .before .args in
     rw (← in-640 (machine (a .s .controller) (a .memory .now)) (a .font .now) (a .number) (a .«record»)
     (sym (w .at-most .ensures .0 .1) ∙ w .at-most .ensures .1 ∙ ap (λ (x : FrameSize). min (x .width) 640) (z .frame-size .ensures))
@@ -24,9 +24,10 @@ show-spec =
     (tie.spec
     (λ c κs. search needs)
     (λ c. search needs)
+    (λ c. search needs)
     (λ c κs. search needs)
     (λ c. search needs)
     (λ c. search needs)
-    (λ c κs. ap (λ (z : FrameSize). z .rows) (c .before .before .before .before .before .frame-size .ensures))
+    (λ c κs. ap (λ (z : FrameSize). z .rows) (c .before .before .before .before .before .before .frame-size .ensures))
     (λ c. search needs)
     returns)

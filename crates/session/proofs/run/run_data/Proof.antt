@@ -3,9 +3,9 @@ use Prim.Native.Nat.{ℕ, _+_, _-_, _≤_}
 use mathlib.Core.List.{List, map}
 use mathlib.Core.Path.{_≡_, refl, ap}
 use native.Mathlib.Omega.{arith}
-use lib.ListN.{length, getD, take, drop, length-drop, drop-of-length-le}
-use lib.Seq.{take-all}
+use lib.ListN.{length, getD, drop, length-drop, drop-of-length-le}
 use borrow.Author.Needs.{needs}
+use Rattle.choice.proofs.Parts.{part-to-end}
 use Rattle.model.specs.Calls.{write}
 use Rattle.model.specs.WriteRun.{RunOutcome}
 use Rattle.model.proofs.WriteRuns.{run-within}
@@ -26,16 +26,12 @@ Inv-loop memory₀ out₀ payload «record» written₀ o₀ i₀ memory out wri
 abbrev μ-loop : tie.MeasureT-loop
 μ-loop memory₀ out₀ payload «record» written₀ o₀ i₀ memory out written o i = length payload - i
 
--- the data lent to the run are all behind the command byte
-whole : (payload : List ℕ) → take (length payload - 1) (drop 1 payload) ≡ drop 1 payload
-whole payload = take-all (length payload - 1) (drop 1 payload) (rw length-drop (omega arith))
-
 add-i : tie.Need-add-i Inv-loop μ-loop
 add-i c =
     let r = c .before .before .before .before .before in
     let a = r .before .before .before .before .before .before .before .args in
     let bs = drop 1 (a .payload .now) in
-    let taken : r .write-run .result .length ≤ length bs = rw (ap (λ (o : RunOutcome). o .length) (rw whole at (r .write-run .ensures))) (run-within _ bs) in
+    let taken : r .write-run .result .length ≤ length bs = rw (ap (λ (o : RunOutcome). o .length) (rw part-to-end at (r .write-run .ensures))) (run-within _ bs) in
     omega (arith, rw length-drop at taken, r .before .before .before .before .before .before .before .good)
 
 loop-again : tie.Need-loop-again Inv-loop μ-loop
@@ -58,7 +54,7 @@ returns c =
     let l = c .before .before in
     let r = l .before .before .before .before .before .before in
     let a = r .before .before .before .before .before .before .before .args in
-    run-first (a .«record») (a .payload .now) (live (a .s) (a .memory .now) (a .out .now)) (rw whole at (r .write-run .ensures))
+    run-first (a .«record») (a .payload .now) (live (a .s) (a .memory .now) (a .out .now)) (rw part-to-end at (r .write-run .ensures))
     (l .loop .inv .0 _ (no-calls _ _ _ _ (ap (λ (bs : List ℕ). map write bs) (drop-of-length-le _ (c .before .loop-test .left)))))
 
 pub run-data-spec : {M : Type 1} → statement M

@@ -1,2 +1,0 @@
-pub mod SavedBytes
-pub mod Outcomes

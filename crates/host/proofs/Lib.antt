@@ -1,0 +1,3 @@
+pub mod SavedBytes
+pub mod Outcomes
+pub mod SentBytes

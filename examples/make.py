@@ -6,6 +6,8 @@ grey.bus    a picture of four shades: a gradient behind a box that has priority 
 scroll.bus  a job list that moves to the left a dot at a time, its cursor with it, until it has moved by a character
 wake.bus    a page that sleep darkens, that waking leaves dark and DISP ON shows again; and a sleep that is refused
 worked.bus  the worked example of the rules: two rows of graphics, and a byte that is no command
+host-1.bus  for host.c: the page's commands, which leave the cursor at its second line
+host-2.bus  for host.c: what came later, another second line at that cursor, another strip, and the cursor shown
 """
 import os
 import struct
@@ -45,7 +47,7 @@ def write(address, data):
     return bus(0x46, address & 255, address >> 8) + bus(0x42, *data)
 
 
-def page():
+def page_commands():
     width, rows = 10, 24
     made = bus(0x40, 0x10, 7, 7, width - 1, width + 3, rows - 1, width, 0)  # 80 x 24 dots, 8 x 8 characters
     made += bus(0x44, 0, 0, 15, 0x00, 0x02, 23, 0x00, 0x01, 0, 0)  # block 1: 16 rows, then block 3; block 2 below
@@ -54,8 +56,11 @@ def page():
     made += write(0x0100, b" TO BAY 4 ")
     edge = [0xFF] * width
     side = [0x80] + [0] * (width - 2) + [0x01]
-    made += write(0x0200, edge + side * (rows - 2) + edge)
-    return made + show(0)
+    return made + write(0x0200, edge + side * (rows - 2) + edge)
+
+
+def page():
+    return page_commands() + show(0)
 
 
 def grey():
@@ -102,10 +107,20 @@ def worked():
     return made + show(0) + bus(0xFF)
 
 
+def host_1():
+    return page_commands() + bus(0x46, 0x0A, 0)
+
+
+def host_2():
+    made = bus(0x42, *b" JOB 14   ") + write(0x0100, b" TO BAY 7 ")
+    return made + bus(0x5D, 4, 7) + bus(0x46, 0x10, 0) + bus(0x59, 0x55)  # the cursor a steady line below the 4 of 14
+
+
 def main():
     folder = sys.argv[1] if len(sys.argv) > 1 else os.path.dirname(os.path.abspath(__file__))
     made = {
         "font.bin": font(), "page.bus": page(), "grey.bus": grey(), "scroll.bus": scroll(), "wake.bus": wake(), "worked.bus": worked(),
+        "host-1.bus": host_1(), "host-2.bus": host_2(),
     }
     for name, data in made.items():
         with open(os.path.join(folder, name), "wb") as file:

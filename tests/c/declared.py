@@ -34,9 +34,11 @@ def main():
     header = re.sub(r"\s+", " ", re.sub(r"/\*.*?\*/", "", (root / "include/granivolche.h").read_text(), flags=re.S))
     source = "".join(path.read_text() for path in sorted((root / "crates/host/src").glob("**/*.rt")))
     exported = re.findall(r'pub extern "C" fn (\w+)\((.*?)\) -> (\w+)', source, flags=re.S)
-    refusals = re.findall(r"^number (\w+) = (\d+)$", (root / "crates/registers/specs/Refusals.antt").read_text(), flags=re.M)
-    same = [compare("functions", {prototype(*one) for one in exported}, set(re.findall(r"\w+ granivolche_\w+\(.*?\);", header))),
-            compare("refusals", {constant(*one) for one in refusals}, set(re.findall(r"GRANIVOLCHE_REFUSED_\w+ = \d+", header)))]
+    declared = re.findall(r"\w+ granivolche_\w+\(.*?\);", header)
+    numbered = re.findall(r"^number (\w+) = (\d+)$", (root / "crates/registers/specs/Refusals.antt").read_text(), flags=re.M)
+    named = re.findall(r"GRANIVOLCHE_REFUSED_\w+ = \d+", header)
+    same = [compare("functions", {prototype(*one) for one in exported}, set(declared)),
+            compare("refusals", {constant(*one) for one in numbered}, set(named))]
     sys.exit(0 if all(same) else 1)
 
 

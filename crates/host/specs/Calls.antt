@@ -21,10 +21,6 @@ returned answer controller memory = record { answer = answer; controller = contr
 abbrev pub saving : ℕ → Machine → Returned
 saving answer m = returned answer (savedBytes (m .controller)) (m .memory)
 
--- what is done on the controller that the bytes are; where they are none 255 is answered, and nothing changes
-abbrev pub onSaved : List ℕ → List ℕ → (Machine → Returned) → Returned
-onSaved s memory f = if isSaved s then f (machine (controllerOf s) memory) else returned 255 s memory
-
 -- reset takes 48 bytes of any content
 abbrev pub afterReset : List ℕ → List ℕ → Returned
 afterReset s memory = if length s =? 48 then saving 0 (machine resetController memory) else returned 255 s memory
@@ -33,9 +29,11 @@ afterReset s memory = if length s =? 48 then saving 0 (machine resetController m
 abbrev pub answerOf : Reply → ℕ
 answerOf a = a .refusal + 256 * a .value
 
--- a command write, a data write or a data read
+-- a command write, a data write or a data read on the controller that the bytes are; where they are none 255 is answered, and nothing changes
 abbrev pub afterCall : List ℕ → List ℕ → BusCall → Returned
-afterCall s memory c = onSaved s memory (λ m. saving (answerOf (call m c .reply)) (call m c .machine))
+afterCall s memory c =
+    if isSaved s then (let o = call (machine (controllerOf s) memory) c in saving (answerOf (o .reply)) (o .machine))
+    else returned 255 s memory
 
 -- a row, and what it leaves in its buffer
 abbrev pub rowReturned : ℕ → List ℕ → RowOutcome

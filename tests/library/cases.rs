@@ -1,10 +1,9 @@
 //! A case from a seed: a controller, memory and font that a caller hands in, and calls on them.
 
-use crate::handed_in;
-use exported::saved;
-use reference::commands::{CODES, MWRITE, SLEEP_IN, SYSTEM_SET};
+use host::handed_in::{self, WRONG_FONTS, WRONG_MEMORIES};
+use host::saved;
+use reference::commands::{parameter_count, CODES, MWRITE, SLEEP_IN, SYSTEM_SET};
 use reference::refusals::{FONT_SIZE, MEMORY_SIZE};
-use reference::registers::Registers;
 use std::fmt;
 use support::limits;
 use support::random::Random;
@@ -15,8 +14,10 @@ pub enum Call {
     CommandWrite(u8),
     DataWrite(u8),
     DataRead,
-    DataWrites(Vec<u8>),
-    Row { frame: u32, row: u32, length: usize },
+    /// A record, and the length of the buffer for the answers.
+    Send { bytes: Vec<u8>, answers: usize },
+    Row(handed_in::Row),
+    FrameSize,
 }
 
 impl fmt::Display for Call {
@@ -26,8 +27,9 @@ impl fmt::Display for Call {
             Call::CommandWrite(byte) => write!(f, "command write {:02X}", byte),
             Call::DataWrite(byte) => write!(f, "data write {:02X}", byte),
             Call::DataRead => write!(f, "data read"),
-            Call::DataWrites(bytes) => write!(f, "{} data writes", bytes.len()),
-            Call::Row { frame, row, length } => write!(f, "row {} of frame {} into {} bytes", row, frame, length),
+            Call::Send { bytes, answers } => write!(f, "send of {:02X?} with {} answers", bytes, answers),
+            Call::Row(row) => write!(f, "row {} of frame {} into {} bytes", row.row, row.frame, row.length),
+            Call::FrameSize => write!(f, "frame size"),
         }
     }
 }
@@ -38,9 +40,6 @@ pub struct Case {
     pub font: Vec<u8>,
     pub calls: Vec<Call>,
 }
-
-pub const WRONG_MEMORIES: [usize; 5] = [0, 1, 32_767, 32_769, 65_536];
-pub const WRONG_FONTS: [usize; 4] = [0, 1, 1_279, 1_281];
 
 pub fn generate(seed: u64) -> Case {
     let mut random = Random::new(seed);
@@ -75,7 +74,11 @@ pub fn generate(seed: u64) -> Case {
         handed_in::form(&mut controller, &mut random);
     }
     for _ in 0..random.between(1, 5) {
-        calls.push(if rows { row(&controller, &mut random) } else { call(&controller, &mut random) });
+        calls.push(match random.below(10) {
+            0 if rows => Call::FrameSize,
+            _ if rows => Call::Row(handed_in::row(&controller, &mut random)),
+            _ => call(&controller, &mut random),
+        });
     }
     Case {
         calls,
@@ -90,44 +93,44 @@ fn resized(mut bytes: Vec<u8>, size: usize, wrong: &[usize], random: &mut Random
     bytes
 }
 
-fn row(controller: &[u8], random: &mut Random) -> Call {
-    let registers = saved::read(controller).map_or(Registers::reset(), |controller| controller.registers.in_layout());
-    let rows = registers.rows();
-    let row = match random.below(18) {
-        0 => rows,
-        1 => rows - 1,
-        2 => u32::MAX,
-        3 => random.between(1, 255) * 256 + random.below(rows),
-        4 => random.between(1, 65_535) * 65_536 + random.below(rows),
-        5 => random.next() as u32,
-        _ => random.below(rows),
-    };
-    let width = registers.width() as usize;
-    let length = match random.below(18) {
-        // One column, scrolled, has no dots.
-        0 => width.saturating_sub(1),
-        1 => width + 1,
-        2 => 0,
-        3 => random.below(700) as usize,
-        4 => registers.unscrolled_width() as usize,
-        _ => width,
-    };
-    let frame = if random.chance(50) { 0 } else { random.next() as u32 };
-    Call::Row { frame, row, length }
-}
-
 fn call(controller: &[u8], random: &mut Random) -> Call {
-    match random.below(22) {
+    match random.below(24) {
         0 => Call::Reset,
         1 | 2 => Call::CommandWrite(if random.chance(80) { random.pick(&CODES) } else { random.byte() }),
         3..=6 => Call::DataRead,
-        7 | 8 => {
-            let count = random.below(60);
-            Call::DataWrites(random.bytes(count))
-        }
-        9 => Call::CommandWrite(MWRITE),
-        10 | 11 => row(controller, random),
-        12 => Call::CommandWrite(random.pick(&[SLEEP_IN, SYSTEM_SET])),
+        7..=9 => send(random),
+        10 => Call::CommandWrite(MWRITE),
+        11 | 12 => Call::Row(handed_in::row(controller, random)),
+        13 => Call::CommandWrite(random.pick(&[SLEEP_IN, SYSTEM_SET])),
+        14 => Call::FrameSize,
         _ => Call::DataWrite(if random.chance(60) { random.pick(&[0x00, 0x01, 0x02, 0x07, 0x10, 0x1F, 0x3D]) } else { random.byte() }),
     }
+}
+
+/// A command and data for it, now and then more than it wants. Seldom there are no bytes, or more or fewer answers than bytes.
+fn send(random: &mut Random) -> Call {
+    let command = match random.below(10) {
+        0 => random.byte(),
+        1..=4 => MWRITE,
+        _ => random.pick(&CODES),
+    };
+    let wanted = u32::from(parameter_count(command));
+    let data = match random.below(3) {
+        _ if command == MWRITE => random.below(60),
+        0 => wanted,
+        1 => wanted + random.between(1, 2),
+        _ => random.below(wanted + 1),
+    };
+    let mut bytes = vec![command];
+    bytes.extend((0..data as u8).map(|place| handed_in::value(command, place, random)));
+    if random.chance(4) {
+        bytes.clear();
+    }
+    let answers = match random.below(25) {
+        0 => bytes.len().saturating_sub(1),
+        1 => bytes.len() + 1,
+        2 => 0,
+        _ => bytes.len(),
+    };
+    Call::Send { bytes, answers }
 }

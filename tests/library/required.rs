@@ -1,15 +1,14 @@
 //! What a run must have reached, in the words of `watch.rs`. Fields and flags go by their place in the saved form.
 
-use crate::handed_in::*;
-use exported::saved;
+use host::handed_in::*;
+use host::saved;
 use reference::commands::*;
+use reference::model::NONE;
 use support::counts::Event;
 use support::sleep::WITH_DATA;
 
-const PLAIN: [&str; 27] = [
+const PLAIN: [&str; 37] = [
     "reset of bytes that are no controller",
-    "another format",
-    "a controller of another length",
     "bytes kept for later, written back as 0",
     "direction above 3 moves right",
     "pending code of no command wants nothing",
@@ -18,10 +17,22 @@ const PLAIN: [&str; 27] = [
     "MREAD of a byte that isn't 0 at a place that isn't 0",
     "SLEEP IN accepted",
     "19 with no command pending",
-    "no data writes in one call",
-    "asleep, data writes with MWRITE pending get 3",
+    "no bytes and no answers",
+    "no bytes and an answer",
+    "bytes and no answers",
+    "an answer too few",
+    "an answer too many",
+    "send that refuses nothing",
+    "send of a command alone",
+    "send of a refused command alone",
+    "asleep, send of MWRITE with data",
     "data writes that start outside memory",
-    "data writes all taken as parameters",
+    "send that wakes",
+    "send with a parameter that gets 4 behind one that is taken",
+    "send with 3 behind a parameter that gets 4",
+    "frame size of no dots a row",
+    "frame size wider than a row may be",
+    "frame size of 256 rows",
     "15 since CRY is read as 0",
     "18 since FX is read as 0",
     "16 at row [L/F]",
@@ -54,8 +65,24 @@ pub fn required() -> Vec<Event> {
     ] {
         each(call, &mut (0..5));
     }
-    each("data writes all stored, direction #", &mut (0..4));
-    each("data writes that leave memory, direction #", &mut (0..4));
+    for call in ["no controller, 48 bytes #", "send to no controller, 48 bytes #", "frame size of no controller, 48 bytes #"] {
+        each(call, &mut (0..=1));
+    }
+    for template in [
+        "data writes all stored, direction #", "data writes that leave memory, direction #",
+        "data writes that come into memory, direction #",
+    ] {
+        each(template, &mut (0..4));
+    }
+    each("send of $ with data", &mut CODES.into_iter());
+    each("send of a command that gets #, with data", &mut [2, 5, 19].into_iter());
+    each("send ends $", &mut CODES.into_iter().filter(|code| command_of(*code) == Some(*code)).chain([NONE]));
+    for template in ["send of the whole list of $", "send of more than $ wants"] {
+        each(template, &mut LISTS.iter().map(|list| list.0).chain([DISP_ON]));
+    }
+    each("frame size, scrolled by #", &mut (0..=7));
+    each("frame size, grey code #", &mut (0..=2));
+    each("frame size, field at # whose low bits would give another", &mut [FX, HDOT, GREY].iter().map(|field| *field as u8));
     each("8, wrong font #", &mut (0..4));
     for template in ["asleep with D #, SLEEP IN gets 5", "asleep with D #, P1 of SYSTEM SET gets 4", "waking with D # leaves D 0"] {
         each(template, &mut (0..=1));

@@ -1,29 +1,40 @@
 //! Counts what the cases reached: the state before a call, the call, the answer, and what it left.
 
-use crate::cases::{Call, WRONG_FONTS, WRONG_MEMORIES};
+use crate::cases::Call;
 use crate::compare::Kept;
-use crate::handed_in::{GREY, LIMITED};
-use exported::saved;
+use crate::send;
+use host::expected;
+use host::handed_in::{Row, FX, GREY, HDOT, LIMITED, WRONG_FONTS, WRONG_MEMORIES};
+use host::saved;
 use reference::commands::*;
 use reference::model::{Controller, NONE};
-use reference::refusals::{tests_of_row, RowRequest};
+use reference::refusals::{tests_of_row, RowRequest, WIDEST};
 use support::counts::Counts;
 use support::sleep;
 
-pub fn call(before: &Kept, font: &[u8], call: &Call, answer: u32, after: &Kept, counts: &mut Counts) {
-    let number = (answer % 256) as u8;
-    let controller = match (saved::read(&before.controller), call, before.controller.len()) {
-        (Some(controller), _, _) => controller,
-        (None, Call::Reset, saved::LENGTH) => return counts.hit("reset of bytes that are no controller", &[]),
-        (None, _, saved::LENGTH) => return counts.hit("another format", &[]),
-        (None, _, _) => return counts.hit("a controller of another length", &[]),
+/// A call that compared equal: what it was lent, its answer, and what it left.
+pub struct Seen<'a> {
+    pub before: &'a Kept,
+    pub font: &'a [u8],
+    pub answer: u32,
+    /// The answers of a record, or the dots of a row.
+    pub buffer: &'a [u8],
+    pub after: &'a Kept,
+}
+
+pub fn call(call: &Call, seen: &Seen, counts: &mut Counts) {
+    let Seen { before, answer, after, .. } = *seen;
+    let controller = match saved::read(&before.controller) {
+        Some(controller) => controller,
+        None => return no_controller(call, before.controller.len(), counts),
     };
-    counts.hit("answer #", &[number]);
+    let number = (answer % 256) as u8;
     let outcome = if number == 0 { Ok(()) } else { Err(number) };
     let left = saved::read(&after.controller).expect("a call leaves a saved controller");
     match call {
+        Call::Send { bytes, answers } => return send::watch(&controller, bytes, *answers, seen, counts),
+        Call::FrameSize => return frame_size(&controller, answer, counts),
         Call::Reset => {}
-        Call::DataWrites(bytes) => data_writes(&controller, before, bytes, number, counts),
         Call::CommandWrite(byte) => {
             handed_in_form(before, after, counts);
             sleep::command_write(&controller, *byte, outcome, &left, counts);
@@ -34,18 +45,54 @@ pub fn call(before: &Kept, font: &[u8], call: &Call, answer: u32, after: &Kept, 
             sleep::data_write(&controller, outcome, &left, counts);
         }
         Call::DataRead => data_read(&controller, before, answer, counts),
-        Call::Row { frame, row, length } => {
-            let request = RowRequest { memory: before.memory.len(), font: font.len(), row: *row, buffer: *length };
+        Call::Row(Row { frame, row, length }) => {
+            let request = RowRequest { memory: before.memory.len(), font: seen.font.len(), row: *row, buffer: *length };
             tested_row(&controller, &request, counts);
             if number == 0 {
-                accepted_row(&controller, before, font, *frame, &request, counts);
+                accepted_row(&controller, before, seen.font, *frame, &request, counts);
             }
         }
     }
+    counts.hit("answer #", &[number]);
 }
 
-fn wrong_memory(length: usize) -> u8 {
+/// Bytes that are no saved controller, by their length or by their format.
+fn no_controller(call: &Call, length: usize, counts: &mut Counts) {
+    let format = u8::from(length == saved::LENGTH);
+    match call {
+        Call::Reset if length == saved::LENGTH => counts.hit("reset of bytes that are no controller", &[]),
+        Call::Send { bytes, answers } if !bytes.is_empty() && *answers == bytes.len() => {
+            counts.hit("send to no controller, 48 bytes #", &[format]);
+        }
+        Call::FrameSize => counts.hit("frame size of no controller, 48 bytes #", &[format]),
+        _ => counts.hit("no controller, 48 bytes #", &[format]),
+    }
+}
+
+pub fn wrong_memory(length: usize) -> u8 {
     WRONG_MEMORIES.iter().position(|wrong| *wrong == length).expect("one of the wrong lengths") as u8
+}
+
+fn frame_size(controller: &Controller, answer: u32, counts: &mut Counts) {
+    let registers = controller.registers.in_layout();
+    counts.hit("frame size, scrolled by #", &[registers.hdot]);
+    counts.hit("frame size, grey code #", &[registers.grey]);
+    match answer % 65_536 {
+        0 => counts.hit("frame size of no dots a row", &[]),
+        width if width > WIDEST => counts.hit("frame size wider than a row may be", &[]),
+        _ => {}
+    }
+    if answer / 65_536 == 256 {
+        counts.hit("frame size of 256 rows", &[]);
+    }
+    let bytes = saved::write(controller);
+    for (at, end) in LIMITED.into_iter().filter(|(at, _)| [FX, HDOT, GREY].contains(at)) {
+        let mut low_bits = bytes.clone();
+        low_bits[at] &= end.next_power_of_two() - 1;
+        if bytes[at] >= end && expected::frame_size(&low_bits) != answer {
+            counts.hit("frame size, field at # whose low bits would give another", &[at as u8]);
+        }
+    }
 }
 
 /// Bytes outside the saved form, which a call that writes it back mends.
@@ -85,22 +132,6 @@ fn data_write(controller: &Controller, before: &Kept, number: u8, after: &Kept, 
                 }
             }
         }
-        _ => {}
-    }
-}
-
-/// Data writes in one call: a run, where MWRITE is pending, and what comes after it.
-fn data_writes(controller: &Controller, before: &Kept, bytes: &[u8], number: u8, counts: &mut Counts) {
-    let Controller { pending, registers, .. } = *controller;
-    let inside = usize::from(registers.cursor) < before.memory.len();
-    match (number, pending) {
-        _ if bytes.is_empty() => counts.hit("no data writes in one call", &[]),
-        (1, _) => counts.hit("1 on data writes, wrong memory #", &[wrong_memory(before.memory.len())]),
-        (3, MWRITE) if registers.asleep => counts.hit("asleep, data writes with MWRITE pending get 3", &[]),
-        (0, MWRITE) => counts.hit("data writes all stored, direction #", &[registers.direction as u8]),
-        (7, MWRITE) if inside => counts.hit("data writes that leave memory, direction #", &[registers.direction as u8]),
-        (7, MWRITE) => counts.hit("data writes that start outside memory", &[]),
-        (0, _) => counts.hit("data writes all taken as parameters", &[]),
         _ => {}
     }
 }

@@ -1,8 +1,13 @@
-//! What only a caller can hand in: fields outside their layout, any pending command and place, bytes outside the saved form.
+//! What only a caller can hand in: fields outside their layout, any pending command and place, bytes outside the saved form,
+//! any row number, and memory, font and row buffer of any length.
 
-use exported::saved;
+use crate::saved;
 use reference::commands::{parameter_allowed, parameter_count, CODES, CSRR, MREAD, MWRITE, SYSTEM_SET};
+use reference::registers::Registers;
 use support::random::Random;
+
+pub const WRONG_MEMORIES: [usize; 5] = [0, 1, 32_767, 32_769, 65_536];
+pub const WRONG_FONTS: [usize; 4] = [0, 1, 1_279, 1_281];
 
 /// The fields of a byte that are narrower than it, by their place in the saved form, and the first value outside.
 pub const LIMITED: [(usize, u8); 9] = [
@@ -61,13 +66,18 @@ pub fn pending(controller: &mut [u8], random: &mut Random) {
     controller[saved::DIRECTION] = random.below(4) as u8;
 }
 
-/// A command that waits for one of its parameters, and a value for it, mostly an allowed one.
+/// A command that waits for one of its parameters, and a value for it.
 pub fn parameter(controller: &mut [u8], random: &mut Random) -> u8 {
     let places: Vec<(u8, u8)> = CODES.iter().flat_map(|code| (0..parameter_count(*code)).map(|place| (*code, place))).collect();
     // Asleep it is P1 of SYSTEM SET that wakes.
     let wakes = controller[ASLEEP] == 1 && random.chance(30);
     let (command, place) = if wakes { (SYSTEM_SET, 0) } else { random.pick(&places) };
     controller[saved::PENDING..=saved::PLACE].copy_from_slice(&[command, place]);
+    value(command, place, random)
+}
+
+/// A value for a place of a command's list, mostly an allowed one.
+pub fn value(command: u8, place: u8, random: &mut Random) -> u8 {
     let allowed: Vec<u8> = (0..=255).filter(|value| parameter_allowed(command, place, *value)).collect();
     if random.chance(80) {
         random.pick(&allowed)
@@ -85,4 +95,39 @@ pub fn form(controller: &mut Vec<u8>, random: &mut Random) {
         4 => controller[0] = random.pick(&[0, 2, 255]),
         _ => controller.resize(random.pick(&[0, 1, 47, 49, 96]), 0),
     }
+}
+
+/// What a row is asked with.
+pub struct Row {
+    pub frame: u32,
+    pub row: u32,
+    /// Of the buffer.
+    pub length: usize,
+}
+
+/// Mostly a row of the frame and a buffer of its width.
+pub fn row(controller: &[u8], random: &mut Random) -> Row {
+    let registers = saved::read(controller).map_or(Registers::reset(), |controller| controller.registers.in_layout());
+    let rows = registers.rows();
+    let row = match random.below(18) {
+        0 => rows,
+        1 => rows - 1,
+        2 => u32::MAX,
+        3 => random.between(1, 255) * 256 + random.below(rows),
+        4 => random.between(1, 65_535) * 65_536 + random.below(rows),
+        5 => random.next() as u32,
+        _ => random.below(rows),
+    };
+    let width = registers.width() as usize;
+    let length = match random.below(18) {
+        // One column, scrolled, has no dots.
+        0 => width.saturating_sub(1),
+        1 => width + 1,
+        2 => 0,
+        3 => random.below(700) as usize,
+        4 => registers.unscrolled_width() as usize,
+        _ => width,
+    };
+    let frame = if random.chance(50) { 0 } else { random.next() as u32 };
+    Row { frame, row, length }
 }

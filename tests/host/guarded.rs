@@ -4,6 +4,8 @@ const GUARD: usize = 64;
 
 pub struct Guarded {
     bytes: Vec<u8>,
+    /// Guard bytes on each side.
+    guard: usize,
 }
 
 fn guard(place: usize) -> u8 {
@@ -15,28 +17,39 @@ impl Guarded {
         let mut bytes: Vec<u8> = (0..GUARD).map(guard).collect();
         bytes.extend_from_slice(content);
         bytes.extend((0..GUARD).map(guard));
-        Guarded { bytes }
+        Guarded { bytes, guard: GUARD }
+    }
+
+    /// Without guards, in an allocation of exactly this size: valgrind sees what goes past it, and guards would hide that.
+    pub fn exact(content: &[u8]) -> Guarded {
+        Guarded { bytes: content.to_vec(), guard: 0 }
     }
 
     fn end(&self) -> usize {
-        self.bytes.len() - GUARD
+        self.bytes.len() - self.guard
     }
 
     pub fn content(&self) -> &[u8] {
-        &self.bytes[GUARD..self.end()]
+        &self.bytes[self.guard..self.end()]
     }
 
     pub fn lent(&mut self) -> &mut [u8] {
         let end = self.end();
-        &mut self.bytes[GUARD..end]
+        &mut self.bytes[self.guard..end]
+    }
+
+    /// Whether the bytes beside the content stand.
+    pub fn guards_stand(&self, name: &str) -> Result<(), String> {
+        let guards = [&self.bytes[..self.guard], &self.bytes[self.end()..]];
+        if guards.iter().any(|side| (0..self.guard).any(|place| side[place] != guard(place))) {
+            return Err(format!("a byte beside the lent {} was touched", name));
+        }
+        Ok(())
     }
 
     /// What differs from the expected content, or from the guards.
     pub fn difference(&self, name: &str, expected: &[u8]) -> Result<(), String> {
-        let guards = [&self.bytes[..GUARD], &self.bytes[self.end()..]];
-        if guards.iter().any(|side| (0..GUARD).any(|place| side[place] != guard(place))) {
-            return Err(format!("a byte beside the lent {} was touched", name));
-        }
+        self.guards_stand(name)?;
         if self.content() == expected {
             return Ok(());
         }

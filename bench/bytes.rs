@@ -1,20 +1,21 @@
-//! Data bytes into memory: records of the library's data writes, beside a copy of the same bytes.
+//! Data bytes into memory, in records and a call each, beside a copy of the same bytes.
 
 use crate::timing::{nanoseconds, unknown};
-use exported::{calls, saved};
+use host::functions::{Functions, LIBRARY, REFERENCE};
+use host::saved;
 use reference::commands::MWRITE;
-use reference::model::Controller;
+use reference::model::{Controller, NONE};
 use reference::refusals::MEMORY_SIZE;
 use reference::registers::{Direction, Registers};
 use support::random::Random;
 
-/// A record of data writes: how many, which way the cursor moves, and from where. It never leaves memory.
+/// Data writes: how many, which way the cursor moves, and from where. They never leave memory.
 pub struct Record {
     pub name: &'static str,
     pub length: usize,
     pub direction: Direction,
     pub start: u16,
-    /// Whether each byte is a call of its own.
+    /// Whether each byte is a call of `granivolche_data_write`, or all are one of `granivolche_send`.
     pub single: bool,
 }
 
@@ -24,31 +25,41 @@ const PITCH: u16 = 16;
 pub fn records() -> Vec<Record> {
     let record = |name, length, direction, start, single| Record { name, length, direction, start, single };
     vec![
-        record("a data byte, records of 2,000, right", 2_000, Direction::Right, 0, false),
-        record("a data byte, records of 32,768, right", 32_768, Direction::Right, 0, false),
-        record("a data byte, records of 2,000, left", 2_000, Direction::Left, 1_999, false),
-        record("a data byte, records of 2,000, up", 2_000, Direction::Up, 1_999 * PITCH, false),
-        record("a data byte, records of 2,000, down", 2_000, Direction::Down, 0, false),
-        record("a data byte, a call each, right", 2_000, Direction::Right, 0, true),
+        record("a data byte by granivolche_send, records of 2,000, right", 2_000, Direction::Right, 0, false),
+        record("a data byte by granivolche_send, records of 32,768, right", 32_768, Direction::Right, 0, false),
+        record("a data byte by granivolche_send, records of 2,000, left", 2_000, Direction::Left, 1_999, false),
+        record("a data byte by granivolche_send, records of 2,000, up", 2_000, Direction::Up, 1_999 * PITCH, false),
+        record("a data byte by granivolche_send, records of 2,000, down", 2_000, Direction::Down, 0, false),
+        record("a data byte by granivolche_data_write, a call each, right", 2_000, Direction::Right, 0, true),
     ]
 }
 
 impl Record {
-    /// A controller that waits for the bytes.
+    /// A controller that waits for the bytes, or for the record.
     fn controller(&self) -> Controller {
         let registers = Registers { ap: PITCH, cursor: self.start, direction: self.direction, ..Registers::reset() };
-        Controller { registers, pending: MWRITE, place: 0 }
+        Controller { registers, pending: if self.single { MWRITE } else { NONE }, place: 0 }
     }
 
+    /// So many bytes, behind MWRITE where they are a record.
     fn bytes(&self) -> Vec<u8> {
-        Random::new(2).bytes(self.length as u32)
+        let mut bytes = if self.single { vec![] } else { vec![MWRITE] };
+        bytes.extend(Random::new(2).bytes(self.length as u32));
+        bytes
     }
 
-    fn send(&self, controller: &mut [u8], memory: &mut [u8], bytes: &[u8]) -> u32 {
-        if self.single {
-            return bytes.iter().map(|byte| calls::data_write(controller, memory, *byte)).max().unwrap_or(0);
+    /// 0 where nothing is refused, and an answer for each byte.
+    fn write(&self, functions: &Functions, controller: &mut [u8], memory: &mut [u8], bytes: &[u8], answers: &mut [u8]) -> u32 {
+        if !self.single {
+            return (functions.send)(controller, memory, bytes, answers);
         }
-        calls::data_writes(controller, memory, bytes)
+        let mut refused = 0;
+        for (byte, answer) in bytes.iter().zip(answers) {
+            let number = (functions.data_write)(controller, memory, *byte);
+            *answer = number as u8;
+            refused |= number;
+        }
+        refused
     }
 }
 
@@ -65,16 +76,18 @@ pub fn measure(record: &Record) -> Times {
     let repeats = (BYTES + record.length - 1) / record.length;
     let (bytes, start) = (record.bytes(), saved::write(&record.controller()));
     let mut memory = vec![0; MEMORY_SIZE];
+    let mut answers = vec![0; bytes.len()];
     let ours = nanoseconds(|| {
         for _ in 0..repeats {
             let mut controller = start.clone();
-            record.send(&mut controller, unknown(&mut memory), unknown(&bytes));
-            unknown(controller);
+            record.write(&LIBRARY, &mut controller, unknown(&mut memory), unknown(&bytes), &mut answers);
+            unknown((controller, &mut answers));
         }
     });
+    let data = &bytes[bytes.len() - record.length..];
     let copy = nanoseconds(|| {
         for _ in 0..repeats {
-            memory[..record.length].copy_from_slice(unknown(&bytes));
+            memory[..record.length].copy_from_slice(unknown(data));
             unknown(&mut memory);
         }
     });
@@ -82,14 +95,18 @@ pub fn measure(record: &Record) -> Times {
     Times { ours: ours / all, copy: copy / all }
 }
 
-/// Whether the library leaves the controller and the memory that the reference leaves, refuses nothing, and moves to the
-/// right as a copy does.
+/// Whether the library leaves the controller, the memory and the answers that the reference leaves, refuses nothing, and
+/// moves to the right as a copy does.
 pub fn agree(record: &Record) -> bool {
-    let (mut controller, mut memory) = (record.controller(), vec![0; MEMORY_SIZE]);
-    let (mut saved, mut library_memory) = (saved::write(&controller), memory.clone());
     let bytes = record.bytes();
-    let accepted = bytes.iter().all(|byte| controller.data_write(&mut memory, *byte).is_ok());
-    let number = record.send(&mut saved, &mut library_memory, &bytes);
-    let copied = record.direction != Direction::Right || library_memory[..record.length] == bytes;
-    accepted && number == 0 && copied && saved == saved::write(&controller) && library_memory == memory
+    let left_by = |functions: &Functions| {
+        let (mut controller, mut memory) = (saved::write(&record.controller()), vec![0; MEMORY_SIZE]);
+        // No byte has this answer.
+        let mut answers = vec![0xEE; bytes.len()];
+        let refused = record.write(functions, &mut controller, &mut memory, &bytes, &mut answers);
+        (refused, controller, memory, answers)
+    };
+    let ours = left_by(&LIBRARY);
+    let copied = record.direction != Direction::Right || bytes.ends_with(&ours.2[..record.length]);
+    ours.0 == 0 && copied && ours == left_by(&REFERENCE)
 }

@@ -2,7 +2,7 @@
 
 use crate::setups::Setup;
 use crate::timing::{nanoseconds, unknown};
-use exported::{calls, saved};
+use host::{calls, saved};
 
 /// Times in nanoseconds a dot.
 pub struct Times {

@@ -1,5 +1,8 @@
 //! Bytes that are lent to a call, with guard bytes on both sides that no call may touch.
 
+/// How bytes are lent: `Guarded::new`, or `Guarded::exact`.
+pub type Lend = fn(&[u8]) -> Guarded;
+
 const GUARD: usize = 64;
 
 pub struct Guarded {

@@ -40,9 +40,9 @@ pub struct Setup {
     pub hdot: u8,
     pub grey: u8,
     pub cursor: u16,
-    /// Areas of memory: bytes for graphics and CG RAM, codes for text.
-    data: (u16, Vec<u8>),
-    text: (u16, Vec<u8>),
+    /// Areas of memory, which may reach past its end: bytes for graphics and CG RAM, codes for text.
+    pub data: (u16, Vec<u8>),
+    pub text: (u16, Vec<u8>),
 }
 
 impl Setup {

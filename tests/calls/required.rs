@@ -24,9 +24,9 @@ pub fn required() -> Vec<Event> {
     each("byte read that isn't 0, direction #", &mut (0..4));
     each("lit row, grey code #", &mut (0..=2));
     each("lit row, scrolled by #", &mut (0..=7));
-    each("lit row, field at # outside its layout", &mut LIMITED.iter().map(|field| field.0 as u8));
-    // D above 1 is read as 0 and asleep is dark too.
-    each("lit row, flag at # above 1", &mut saved::FLAGS.iter().filter(|flag| **flag != D).map(|flag| *flag as u8));
+    each("row shown, field at # outside its layout", &mut LIMITED.iter().map(|field| field.0 as u8));
+    // D above 1 is read as 0, so the display is off.
+    each("row shown, flag at # above 1", &mut saved::FLAGS.iter().filter(|flag| **flag != D).map(|flag| *flag as u8));
     for code in CODES.into_iter().filter(|code| command_of(*code) == Some(*code)) {
         all.extend((1..=parameter_count(code)).map(|place| ("parameter # of $ stored", vec![place, code])));
     }

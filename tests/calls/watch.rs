@@ -73,14 +73,16 @@ fn row(before: &Before, number: u8, answer: &str, counts: &mut Counts) {
         8 => counts.hit("row, wrong font #", &[place_of(&WRONG_FONTS, before.font)]),
         0 if registers.asleep => counts.hit("row accepted, asleep", &[]),
         0 if !registers.d => counts.hit("row accepted, display off", &[]),
-        0 if answer[2..].contains(|digit| digit != '0') => {
-            counts.hit("lit row, grey code #", &[registers.grey]);
-            counts.hit("lit row, scrolled by #", &[registers.hdot]);
+        0 => {
+            if answer[2..].contains(|digit| digit != '0') {
+                counts.hit("lit row, grey code #", &[registers.grey]);
+                counts.hit("lit row, scrolled by #", &[registers.hdot]);
+            }
             for (at, _) in LIMITED.iter().filter(|(at, end)| before.bytes[*at] >= *end) {
-                counts.hit("lit row, field at # outside its layout", &[*at as u8]);
+                counts.hit("row shown, field at # outside its layout", &[*at as u8]);
             }
             for flag in saved::FLAGS.iter().filter(|flag| before.bytes[**flag] > 1) {
-                counts.hit("lit row, flag at # above 1", &[*flag as u8]);
+                counts.hit("row shown, flag at # above 1", &[*flag as u8]);
             }
         }
         _ => {}

@@ -19,7 +19,7 @@ mod runner;
 mod watch;
 
 use host::functions::LIBRARY;
-use host::guarded::{Guarded, Lend};
+use host::guarded::{lending, Lend};
 use std::fs;
 use std::process::ExitCode;
 use support::seeds;
@@ -28,13 +28,9 @@ const SEEDS: u64 = 1_000;
 
 fn main() -> ExitCode {
     let words: Vec<String> = std::env::args().skip(1).collect();
-    let mut words: Vec<&str> = words.iter().map(String::as_str).collect();
-    let mut lend: Lend = Guarded::new;
-    if words.first() == Some(&"--exact") {
-        lend = Guarded::exact;
-        words.remove(0);
-    }
-    match run(&words, lend) {
+    let words: Vec<&str> = words.iter().map(String::as_str).collect();
+    let (lend, words) = lending(&words);
+    match run(words, lend) {
         Ok(true) => ExitCode::SUCCESS,
         Ok(false) => ExitCode::FAILURE,
         Err(message) => {

@@ -3,6 +3,14 @@
 /// How bytes are lent: `Guarded::new`, or `Guarded::exact`.
 pub type Lend = fn(&[u8]) -> Guarded;
 
+/// How a test is to lend, and its other arguments: `--exact` comes before them.
+pub fn lending<'a>(arguments: &'a [&'a str]) -> (Lend, &'a [&'a str]) {
+    match arguments {
+        ["--exact", others @ ..] => (Guarded::exact, others),
+        _ => (Guarded::new, arguments),
+    }
+}
+
 const GUARD: usize = 64;
 
 pub struct Guarded {

@@ -3,7 +3,7 @@
 use crate::cases::{Call, Case};
 use crate::watch::{self, Seen};
 use host::functions::{Functions, LIBRARY, REFERENCE};
-use host::guarded::Guarded;
+use host::guarded::Lend;
 use support::counts::Counts;
 
 /// What a host keeps between calls.
@@ -37,11 +37,11 @@ fn answer(functions: &Functions, call: &Call, lent: Lent) -> u32 {
 
 /// Compares after each call: the answer with the value read, every byte of the controller, the memory, the font, the record
 /// that was sent and the buffer, and the bytes beside each of them.
-pub fn compare(case: &Case, counts: &mut Counts) -> Result<(), String> {
+pub fn compare(case: &Case, lend: Lend, counts: &mut Counts) -> Result<(), String> {
     let mut kept = Kept { controller: case.controller.clone(), memory: case.memory.clone() };
-    let mut controller = Guarded::new(&case.controller);
-    let mut memory = Guarded::new(&case.memory);
-    let font = Guarded::new(&case.font);
+    let mut controller = lend(&case.controller);
+    let mut memory = lend(&case.memory);
+    let font = lend(&case.font);
     for (index, call) in case.calls.iter().enumerate() {
         let (bytes, length) = match call {
             Call::Send { bytes, answers } => (&bytes[..], *answers),
@@ -49,7 +49,7 @@ pub fn compare(case: &Case, counts: &mut Counts) -> Result<(), String> {
             _ => (&[][..], 0),
         };
         let mut left: Vec<u8> = (0..length).map(|place| 0xC3 ^ place as u8).collect();
-        let (record, mut buffer) = (Guarded::new(bytes), Guarded::new(&left));
+        let (record, mut buffer) = (lend(bytes), lend(&left));
         let lent = Lent {
             controller: controller.lent(),
             memory: memory.lent(),

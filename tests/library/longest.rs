@@ -6,7 +6,17 @@ use host::saved;
 use reference::model::Controller;
 use reference::refusals::MEMORY_SIZE;
 
-pub fn check() -> Result<(), String> {
+/// Prints 'N passed, M failed' as its last line, and says whether M is 0.
+pub fn check() -> bool {
+    let outcome = nothing_done();
+    match &outcome {
+        Ok(()) => println!("1 passed, 0 failed"),
+        Err(difference) => println!("a record of 0xFFFFFFFF bytes: {}\n0 passed, 1 failed", difference),
+    }
+    outcome.is_ok()
+}
+
+fn nothing_done() -> Result<(), String> {
     const LENGTH: usize = NOT_SENT as usize;
     // The system clears a page when it is first touched, so that these take no room while nobody does.
     let (bytes, mut answers) = (vec![0; LENGTH], vec![0; LENGTH]);

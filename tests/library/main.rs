@@ -4,6 +4,8 @@
 //!     library [FIRST_SEED [SEEDS]]   by default seeds 1 to 20,000
 //!     library --longest              a record too long to be sent
 //!
+//! With --exact before the seeds, bytes are lent in allocations of exactly their size, for valgrind, and not between guards.
+//!
 //! A difference is told by its seed and call. Then come the counts of what the cases reached, one a line. From 20,000 seeds
 //! on each count of `required.rs` must not be 0. The last line is 'N passed, M failed': N counts cases that compared equal
 //! and required counts that aren't 0.
@@ -15,42 +17,34 @@ mod required;
 mod send;
 mod watch;
 
+use host::guarded::{lending, Lend};
 use std::process::ExitCode;
 
 const SEEDS: u64 = 20_000;
 
 fn main() -> ExitCode {
-    if std::env::args().skip(1).eq(["--longest"]) {
-        return longest();
-    }
-    let arguments: Result<Vec<u64>, _> = std::env::args().skip(1).map(|word| word.parse()).collect();
-    let (first, seeds) = match arguments.as_deref() {
-        Ok([]) => (1, SEEDS),
-        Ok([first]) => (*first, SEEDS),
-        Ok([first, seeds]) => (*first, *seeds),
+    let words: Vec<String> = std::env::args().skip(1).collect();
+    let words: Vec<&str> = words.iter().map(String::as_str).collect();
+    let (lend, words) = lending(&words);
+    let numbers: Result<Vec<u64>, _> = words.iter().map(|word| word.parse()).collect();
+    let passed = match (words, numbers.as_deref()) {
+        (["--longest"], _) => longest::check(),
+        (_, Ok([])) => over_seeds(1, SEEDS, lend),
+        (_, Ok([first])) => over_seeds(*first, SEEDS, lend),
+        (_, Ok([first, seeds])) => over_seeds(*first, *seeds, lend),
         _ => {
-            eprintln!("usage: library [FIRST_SEED [SEEDS]] or library --longest");
-            return ExitCode::FAILURE;
+            eprintln!("usage: library [--exact] [FIRST_SEED [SEEDS]] or library --longest");
+            false
         }
     };
-    let required = if seeds >= SEEDS { Some(required::required()) } else { None };
-    if support::seeds::run(first..first + seeds, required, |seed, counts| compare::compare(&cases::generate(seed), counts)) {
+    if passed {
         ExitCode::SUCCESS
     } else {
         ExitCode::FAILURE
     }
 }
 
-fn longest() -> ExitCode {
-    match longest::check() {
-        Ok(()) => {
-            println!("1 passed, 0 failed");
-            ExitCode::SUCCESS
-        }
-        Err(difference) => {
-            println!("a record of 0xFFFFFFFF bytes: {}", difference);
-            println!("0 passed, 1 failed");
-            ExitCode::FAILURE
-        }
-    }
+fn over_seeds(first: u64, seeds: u64, lend: Lend) -> bool {
+    let required = if seeds >= SEEDS { Some(required::required()) } else { None };
+    support::seeds::run(first..first + seeds, required, |seed, counts| compare::compare(&cases::generate(seed), lend, counts))
 }

@@ -7,7 +7,7 @@ use crate::watch::{self, Before};
 use host::functions::{Functions, LIBRARY, REFERENCE};
 use host::guarded::Lend;
 use std::fs;
-use std::path::PathBuf;
+use std::path::{Path, PathBuf};
 use support::counts::Counts;
 
 /// How many lists the folder of vectors has.
@@ -50,9 +50,9 @@ pub fn vectors(folder: &str, lend: Lend) -> Result<bool, String> {
     Ok(failed == 0)
 }
 
-fn vector(path: &PathBuf, functions: &'static Functions, lend: Lend) -> Result<(), String> {
+fn vector(path: &Path, functions: &'static Functions, lend: Lend) -> Result<(), String> {
     let read = |path: PathBuf| fs::read_to_string(&path).map_err(|error| format!("{}: {}", path.display(), error));
-    let (list, stored) = (read(path.clone())?, read(path.with_extension("answers"))?);
+    let (list, stored) = (read(path.to_path_buf())?, read(path.with_extension("answers"))?);
     let answered = answers(&list, functions, lend)?;
     if answered == stored {
         return Ok(());

@@ -1,4 +1,4 @@
-//! What a run must have reached, in the words of `watch.rs`. Fields and flags go by their place in the saved form.
+//! What a run must have reached, in the words of `watch.rs` and `send.rs`. Fields and flags go by their place in the saved form.
 
 use host::handed_in::*;
 use host::saved;
@@ -7,8 +7,10 @@ use reference::model::NONE;
 use support::counts::Event;
 use support::sleep::WITH_DATA;
 
-const PLAIN: [&str; 37] = [
+const PLAIN: [&str; 43] = [
     "reset of bytes that are no controller",
+    "another format",
+    "a controller of another length",
     "bytes kept for later, written back as 0",
     "direction above 3 moves right",
     "pending code of no command wants nothing",
@@ -22,6 +24,8 @@ const PLAIN: [&str; 37] = [
     "bytes and no answers",
     "an answer too few",
     "an answer too many",
+    "send to another format",
+    "send to a controller of another length",
     "send that refuses nothing",
     "send of a command alone",
     "send of a refused command alone",
@@ -30,6 +34,8 @@ const PLAIN: [&str; 37] = [
     "send that wakes",
     "send with a parameter that gets 4 behind one that is taken",
     "send with 3 behind a parameter that gets 4",
+    "frame size of another format",
+    "frame size of a controller of another length",
     "frame size of no dots a row",
     "frame size wider than a row may be",
     "frame size of 256 rows",
@@ -64,9 +70,6 @@ pub fn required() -> Vec<Event> {
         "1 on a row, wrong memory #",
     ] {
         each(call, &mut (0..5));
-    }
-    for call in ["no controller, 48 bytes #", "send to no controller, 48 bytes #", "frame size of no controller, 48 bytes #"] {
-        each(call, &mut (0..=1));
     }
     for template in [
         "data writes all stored, direction #", "data writes that leave memory, direction #",

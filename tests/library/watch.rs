@@ -56,17 +56,19 @@ pub fn call(call: &Call, seen: &Seen, counts: &mut Counts) {
     counts.hit("answer #", &[number]);
 }
 
-/// Bytes that are no saved controller, by their length or by their format.
+/// Bytes that are no saved controller. A record is counted where that alone keeps it from being sent.
 fn no_controller(call: &Call, length: usize, counts: &mut Counts) {
-    let format = u8::from(length == saved::LENGTH);
-    match call {
-        Call::Reset if length == saved::LENGTH => counts.hit("reset of bytes that are no controller", &[]),
-        Call::Send { bytes, answers } if !bytes.is_empty() && *answers == bytes.len() => {
-            counts.hit("send to no controller, 48 bytes #", &[format]);
-        }
-        Call::FrameSize => counts.hit("frame size of no controller, 48 bytes #", &[format]),
-        _ => counts.hit("no controller, 48 bytes #", &[format]),
-    }
+    let event = match (call, length) {
+        (Call::Reset, saved::LENGTH) => "reset of bytes that are no controller",
+        (Call::Send { bytes, answers }, _) if bytes.is_empty() || *answers != bytes.len() => return,
+        (Call::Send { .. }, saved::LENGTH) => "send to another format",
+        (Call::Send { .. }, _) => "send to a controller of another length",
+        (Call::FrameSize, saved::LENGTH) => "frame size of another format",
+        (Call::FrameSize, _) => "frame size of a controller of another length",
+        (_, saved::LENGTH) => "another format",
+        (_, _) => "a controller of another length",
+    };
+    counts.hit(event, &[]);
 }
 
 pub fn wrong_memory(length: usize) -> u8 {

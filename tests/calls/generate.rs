@@ -114,12 +114,12 @@ impl List {
         }
     }
 
-    /// Fields outside their layout, and flags above 1.
+    /// Fields outside their layout, and now and then a flag above 1.
     fn hand_in_fields(&mut self) {
         let mut controller = self.runner.controller().to_vec();
         handed_in::fields(&mut controller, &mut self.random);
         if self.random.chance(30) {
-            controller[self.random.pick(&saved::FLAGS)] = self.random.between(2, 255) as u8;
+            handed_in::flag(&mut controller, &mut self.random);
         }
         self.hand_in(&controller);
     }

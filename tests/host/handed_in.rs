@@ -13,6 +13,8 @@ pub const WRONG_FONTS: [usize; 4] = [0, 1, 1_279, 1_281];
 pub const LIMITED: [(usize, u8); 9] = [
     (FX, 16), (FY, 16), (FP, 64), (FC, 4), (CRX, 16), (CRY, 16), (MX, 4), (HDOT, 8), (GREY, 3),
 ];
+pub const IV: usize = 4;
+pub const WF: usize = 8;
 pub const FX: usize = 9;
 pub const FY: usize = 10;
 pub const D: usize = 16;
@@ -86,10 +88,18 @@ pub fn value(command: u8, place: u8, random: &mut Random) -> u8 {
     }
 }
 
+/// Puts a flag above 1, mostly one that is 1: as it is read as 0, that says something else.
+pub fn flag(controller: &mut [u8], random: &mut Random) {
+    let ones: Vec<usize> = saved::FLAGS.into_iter().filter(|flag| controller[*flag] == 1).collect();
+    let any = ones.is_empty() || random.chance(40);
+    let flag = random.pick(if any { &saved::FLAGS } else { &ones });
+    controller[flag] = random.between(2, 255) as u8;
+}
+
 /// Bytes outside the saved form, and bytes that are no saved controller.
 pub fn form(controller: &mut Vec<u8>, random: &mut Random) {
     match random.below(6) {
-        0 | 1 => controller[random.pick(&saved::FLAGS)] = random.between(2, 255) as u8,
+        0 | 1 => flag(controller, random),
         2 => controller[saved::DIRECTION] = random.between(4, 255) as u8,
         3 => controller[random.between(saved::LATER.start as u32, saved::LATER.end as u32 - 1) as usize] = random.byte(),
         4 => controller[0] = random.pick(&[0, 2, 255]),

@@ -58,6 +58,9 @@ pub fn generate(seed: u64) -> Case {
     if rows || random.chance(50) {
         handed_in::fields(&mut controller, &mut random);
     }
+    if rows && random.chance(20) {
+        handed_in::flag(&mut controller, &mut random);
+    }
     let mut calls = vec![];
     if !rows {
         handed_in::pending(&mut controller, &mut random);
@@ -109,6 +112,9 @@ fn call(controller: &[u8], random: &mut Random) -> Call {
 
 /// A command and data for it, now and then more than it wants. Seldom there are no bytes, or more or fewer answers than bytes.
 fn send(random: &mut Random) -> Call {
+    if random.chance(4) {
+        return Call::Send { bytes: vec![], answers: random.below(2) as usize };
+    }
     let command = match random.below(10) {
         0 => random.byte(),
         1..=4 => MWRITE,
@@ -123,11 +129,8 @@ fn send(random: &mut Random) -> Call {
     };
     let mut bytes = vec![command];
     bytes.extend((0..data as u8).map(|place| handed_in::value(command, place, random)));
-    if random.chance(4) {
-        bytes.clear();
-    }
     let answers = match random.below(25) {
-        0 => bytes.len().saturating_sub(1),
+        0 => bytes.len() - 1,
         1 => bytes.len() + 1,
         2 => 0,
         _ => bytes.len(),

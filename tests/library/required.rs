@@ -108,6 +108,9 @@ pub fn required() -> Vec<Event> {
     // D above 1 is read as 0, so the display is dark.
     let seen = saved::FLAGS.iter().filter(|flag| **flag != D);
     each("flag at # above 1 in a lit row", &mut seen.map(|flag| *flag as u8));
+    // Nothing reads IV and WF.
+    let read = saved::FLAGS.iter().filter(|flag| ![IV, WF].contains(flag));
+    each("flag at # above 1 where 1 would give another answer", &mut read.map(|flag| *flag as u8));
     for (command, parameters) in LISTS {
         all.extend((1..=parameters).map(|place| ("parameter # of $ stored", vec![place, command])));
     }

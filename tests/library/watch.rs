@@ -186,6 +186,19 @@ fn tested_row(controller: &Controller, request: &RowRequest, counts: &mut Counts
 }
 
 fn accepted_row(controller: &Controller, before: &Kept, font: &[u8], frame: u32, request: &RowRequest, counts: &mut Counts) {
+    let row_of = |bytes: &[u8]| {
+        let mut dots = vec![0; request.buffer];
+        let controller = saved::read(bytes).expect("a saved controller");
+        controller.row(&before.memory, font, frame, request.row, &mut dots).map(|()| dots)
+    };
+    let row = row_of(&before.controller);
+    for flag in saved::FLAGS.into_iter().filter(|flag| before.controller[*flag] > 1) {
+        let mut as_1 = before.controller.clone();
+        as_1[flag] = 1;
+        if row_of(&as_1) != row {
+            counts.hit("flag at # above 1 where 1 would give another answer", &[flag as u8]);
+        }
+    }
     let by = controller.registers.in_layout().scrolled_by() as u8;
     let (d, asleep) = (controller.registers.d, controller.registers.asleep);
     if asleep {
@@ -194,12 +207,6 @@ fn accepted_row(controller: &Controller, before: &Kept, font: &[u8], frame: u32,
     if !d || asleep {
         return counts.hit("row scrolled by # accepted in a dark display", &[by]);
     }
-    let row_of = |bytes: &[u8]| {
-        let mut dots = vec![0; request.buffer];
-        let controller = saved::read(bytes).expect("a saved controller");
-        controller.row(&before.memory, font, frame, request.row, &mut dots).map(|()| dots)
-    };
-    let row = row_of(&before.controller);
     if row.iter().flatten().any(|dot| *dot != 0) {
         counts.hit("row scrolled by # with a dot that isn't 0", &[by]);
     }

@@ -65,7 +65,7 @@ pub fn pending(controller: &mut [u8], random: &mut Random) {
     let anywhere = random.word();
     let cursor = random.pick(&[0x0000, 0x0001, 0x7FFF, 0x8000, 0xFFFF, anywhere]);
     controller[CURSOR..CURSOR + 2].copy_from_slice(&cursor.to_le_bytes());
-    controller[saved::DIRECTION] = random.below(4) as u8;
+    controller[saved::DIRECTION] = if random.chance(95) { random.below(4) } else { random.between(4, 255) } as u8;
 }
 
 /// A command that waits for one of its parameters, and a value for it.

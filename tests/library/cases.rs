@@ -55,7 +55,7 @@ pub fn generate(seed: u64) -> Case {
     machine.memory[MEMORY_SIZE - 4..].copy_from_slice(&random.bytes(4));
     let mut controller = saved::write(&machine.controller);
     let rows = random.chance(60);
-    if rows || random.chance(50) {
+    if rows || random.chance(80) {
         handed_in::fields(&mut controller, &mut random);
     }
     if rows && random.chance(20) {

@@ -19,7 +19,7 @@ use Rattle.model.specs.Calls.{BusCall, write, call, busCalls, after, outcomes}
 use Rattle.model.specs.Refresh.{All}
 use Rattle.model.specs.WriteRun.{runLength, RunOutcome, runOutcome}
 use Rattle.model.proofs.WriteRuns.{run-within, run-accepted}
-use Rattle.host.specs.Sending.{numbers, refusal, refusals, SendOutcome, answered, sendOutcome, isSendable, sendReturned, sendSaved, afterSend}
+use Rattle.host.specs.Sending.{numbers, refusal, refusals, SendOutcome, answered, sendOutcome, nothingSent, isSendable, sendReturned, sendSaved, afterSend}
 use Rattle.host.specs.Saved.{isSaved, controllerOf, savedBytes}
 use Rattle.host.specs.Calls.{returned}
 
@@ -131,11 +131,11 @@ module _ {m₀ : Machine} {bytes : List ℕ} {i refused : ℕ} {m : Machine} {an
 -- Records sent to a saved controller
 
 pub sendable : (s bytes answers : List ℕ) → isSendable s bytes answers ≡ true
-    → (isSaved s ≡ true) × (0 < length bytes) × (length bytes < 0xFFFFFFFF) × (length answers ≡ length bytes)
+    → (isSaved s ≡ true) × (0 < length bytes) × (length bytes < nothingSent) × (length answers ≡ length bytes)
 unfolding isSendable
 sendable s bytes answers e =
     let t = both-true _ (isSaved s) e in
-    let u = both-true _ (length bytes <? 0xFFFFFFFF) (t .0) in
+    let u = both-true _ (length bytes <? nothingSent) (t .0) in
     let v = both-true (length answers =? length bytes) (0 <? length bytes) (u .0) in
     (t .1, ltb-true _ _ (v .1), ltb-true _ _ (u .1), eqb-true _ _ (v .0))
 

@@ -21,19 +21,23 @@ returned answer controller memory = record { answer = answer; controller = contr
 abbrev pub saving : ℕ → Machine → Returned
 saving answer m = returned answer (savedBytes (m .controller)) (m .memory)
 
+-- the answer where the bytes are no saved controller; no refusal has this number
+abbrev pub noController : ℕ
+noController = 255
+
 -- reset takes 48 bytes of any content
 abbrev pub afterReset : List ℕ → List ℕ → Returned
-afterReset s memory = if length s =? 48 then saving 0 (machine resetController memory) else returned 255 s memory
+afterReset s memory = if length s =? 48 then saving 0 (machine resetController memory) else returned noController s memory
 
 -- the refusal's number, 0 where there is none, and above it the value read
 abbrev pub answerOf : Reply → ℕ
 answerOf a = a .refusal + 256 * a .value
 
--- a command write, a data write or a data read on the controller that the bytes are; where they are none 255 is answered, and nothing changes
+-- a command write, a data write or a data read on the controller that the bytes are; where they are none, nothing changes
 abbrev pub afterCall : List ℕ → List ℕ → BusCall → Returned
 afterCall s memory c =
     if isSaved s then (let o = call (machine (controllerOf s) memory) c in saving (answerOf (o .reply)) (o .machine))
-    else returned 255 s memory
+    else returned noController s memory
 
 -- a row, and what it leaves in its buffer
 abbrev pub rowReturned : ℕ → List ℕ → RowOutcome
@@ -42,7 +46,7 @@ rowReturned answer dots = record { refusal = answer; buffer = dots }
 abbrev pub afterRow : List ℕ → List ℕ → List ℕ → ℕ → ℕ → List ℕ → RowOutcome
 afterRow s memory font frame row dots =
     if isSaved s then rowOutcome (controllerOf s .registers) memory font frame row dots
-    else rowReturned 255 dots
+    else rowReturned noController dots
 
 -- the size of a frame; 0 where the bytes are no saved controller
 abbrev pub frameSizeReturned : List ℕ → ℕ

@@ -38,9 +38,13 @@ sendOutcome m bytes = answered (after m (busCalls bytes)) (numbers m (busCalls b
 abbrev pub sentOutcome : Sent → List ℕ → List ℕ → SendOutcome
 sentOutcome r memory answers = record { machine = machine (r .controller) memory; refused = r .refused; answers = answers }
 
--- one byte or more, and an answer for each; fewer than the number that says that nothing was sent, so that it is no count of refused bytes
+-- the answer where nothing is sent
+abbrev pub nothingSent : ℕ
+nothingSent = 0xFFFFFFFF
+
+-- one byte or more, and an answer for each; and so few that the count of refused bytes is never the answer above
 unfoldable pub isSendable : List ℕ → List ℕ → List ℕ → Bool
-isSendable s bytes answers = length answers =? length bytes && 0 <? length bytes && length bytes <? 0xFFFFFFFF && isSaved s
+isSendable s bytes answers = length answers =? length bytes && 0 <? length bytes && length bytes <? nothingSent && isSaved s
 
 pub record SendReturned : Type 0 where
   pub returned : Returned
@@ -55,4 +59,4 @@ sendSaved o = sendReturned (saving (o .refused) (o .machine)) (o .answers)
 abbrev pub afterSend : List ℕ → List ℕ → List ℕ → List ℕ → SendReturned
 afterSend s memory bytes answers =
     if isSendable s bytes answers then sendSaved (sendOutcome (machine (controllerOf s) memory) bytes)
-    else sendReturned (returned 0xFFFFFFFF s memory) answers
+    else sendReturned (returned nothingSent s memory) answers

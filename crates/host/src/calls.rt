@@ -1,5 +1,6 @@
-// Single calls. Each answers with the number of the refusal, 0 where there is none; or with 255 where the bytes are no saved
-// controller, and then it changes nothing. A data read answers with its value too, times 256.
+// Single calls. Each answers with the number of the refusal, 0 where there is none; or with NO_CONTROLLER, and then it changes
+// nothing. A data read answers with its value too, times 256.
+use crate::NO_CONTROLLER;
 use crate::saved::is_saved;
 use crate::saved::read;
 use crate::saved::read_registers;
@@ -37,7 +38,7 @@ pub extern "C" fn granivolche_reset(controller: &mut [u8]) -> u32
     ensures { λ r. ⌜ ((memory : List ℕ) → returned r (now (controller .exit)) memory ≡ afterReset (now (controller .entry)) memory) ⌝ }
 {
     if controller.len() != 48 {
-        return 255;
+        return NO_CONTROLLER;
     }
     write(Controller::reset(), controller);
     0
@@ -55,7 +56,7 @@ pub extern "C" fn granivolche_command_write(controller: &mut [u8], byte: u8) -> 
         let a = w.answer;
         return number(a) as u32;
     }
-    255
+    NO_CONTROLLER
 }
 
 #[no_mangle]
@@ -70,7 +71,7 @@ pub extern "C" fn granivolche_data_write(controller: &mut [u8], memory: &mut [u8
         let a = w.answer;
         return number(a) as u32;
     }
-    255
+    NO_CONTROLLER
 }
 
 #[no_mangle]
@@ -85,7 +86,7 @@ pub extern "C" fn granivolche_data_read(controller: &mut [u8], memory: &[u8]) ->
         let a = w.answer;
         return read_number(a);
     }
-    255
+    NO_CONTROLLER
 }
 
 #[no_mangle]
@@ -105,7 +106,7 @@ pub extern "C" fn granivolche_row(
         let a = row::compose(r, memory, font, frame, row, dots);
         return number(a) as u32;
     }
-    255
+    NO_CONTROLLER
 }
 
 #[no_mangle]

@@ -5,6 +5,11 @@ mod sending;
 
 use model::Controller;
 
+// The answer where bytes are no saved controller: 48 of format 1. No refusal has this number.
+const NO_CONTROLLER: u32 = 255;
+// The answer where nothing is sent. It is no count of refused bytes, as so many are not sent.
+const NOTHING_SENT: u32 = 0xFFFFFFFF;
+
 // What the calls of a record leave, and how many of them are refused.
 struct Sent {
     controller: Controller,

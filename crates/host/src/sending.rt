@@ -1,4 +1,5 @@
 // A record of kind 1: a command byte and its data writes, with an answer byte for each.
+use crate::NOTHING_SENT;
 use crate::Sent;
 use crate::calls::number;
 use crate::saved::is_saved;
@@ -11,7 +12,7 @@ ghost use mathlib.Core.Path.{_≡_};
 ghost use lib.ListN.{length};
 ghost use Rattle.model.specs.Machine.{machine};
 ghost use Rattle.host.specs.Calls.{returned};
-ghost use Rattle.host.specs.Sending.{refusal, sendOutcome, sentOutcome, isSendable, sendReturned, afterSend};
+ghost use Rattle.host.specs.Sending.{refusal, nothingSent, sendOutcome, sentOutcome, isSendable, sendReturned, afterSend};
 
 // 1 where a number is a refusal's.
 fn refusal(number: u8) -> u32
@@ -22,7 +23,7 @@ fn refusal(number: u8) -> u32
 
 // The first data writes that go into memory are one run, and answered by the zeros that are there already.
 fn send(c: Controller, memory: &mut [u8], bytes: &[u8], answers: &mut [u8]) -> Sent
-    requires { ⌜ (0 < length (now bytes)) × (length (now bytes) < 0xFFFFFFFF) × (length (now answers) ≡ length (now bytes)) ⌝ }
+    requires { ⌜ (0 < length (now bytes)) × (length (now bytes) < nothingSent) × (length (now answers) ≡ length (now bytes)) ⌝ }
     ensures { λ r. ⌜ sentOutcome r (now (memory .exit)) (now (answers .exit))
         ≡ sendOutcome (machine c (now (memory .entry))) (now (bytes .entry)) ⌝ }
 {
@@ -62,7 +63,7 @@ fn is_sendable(controller: &[u8], bytes: &[u8], answers: &[u8]) -> bool
     if bytes.len() == 0 {
         return false;
     }
-    if 0xFFFFFFFF <= bytes.len() {
+    if NOTHING_SENT as usize <= bytes.len() {
         return false;
     }
     is_saved(controller)
@@ -84,5 +85,5 @@ pub extern "C" fn granivolche_send(
         write(sent.controller, controller);
         return sent.refused;
     }
-    0xFFFFFFFF
+    NOTHING_SENT
 }

@@ -7,7 +7,7 @@ use Rattle.registers.specs.Refusals.{Reply}
 use Rattle.row.specs.Rows.{RowOutcome, rowOutcome, frameSize}
 use Rattle.model.specs.Machine.{Machine, machine, resetController}
 use Rattle.model.specs.Calls.{BusCall, call}
-use Rattle.host.specs.Saved.{isSaved, registersOf, controllerOf, savedBytes}
+use Rattle.host.specs.Saved.{isSaved, controllerOf, savedBytes}
 
 pub record Returned : Type 0 where
   pub answer : ℕ
@@ -50,4 +50,4 @@ afterRow s memory font frame row dots =
 
 -- the size of a frame; 0 where the bytes are no saved controller
 abbrev pub frameSizeReturned : List ℕ → ℕ
-frameSizeReturned s = if isSaved s then (let size = frameSize (registersOf s) in size .width + 65536 * size .rows .0) else 0
+frameSizeReturned s = if isSaved s then (let size = frameSize (controllerOf s .registers) in size .width + 65536 * size .rows .0) else 0

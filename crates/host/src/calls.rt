@@ -114,7 +114,8 @@ pub extern "C" fn granivolche_frame_size(controller: &[u8]) -> u32
     ensures { λ r. ⌜ r ≡ frameSizeReturned (now (controller .entry)) ⌝ }
 {
     if is_saved(controller) {
-        let size = row::frame_size(read_registers(controller));
+        let c = read(controller);
+        let size = row::frame_size(c.registers);
         let rows = size.rows;
         return size.width as u32 + 65536 * rows.0 as u32;
     }

@@ -15,5 +15,5 @@ granivolche-frame-size-spec =
     (λ c. search needs)
     (λ c. search needs)
     (λ c. search needs)
-    (λ c. let z = c .before .before .before in let k = z .before in let t = k .before in rw (sym (t .before .is-saved .ensures) ∙ t .if1 .taken, z .frame-size .ensures, k .read-registers .ensures))
+    (λ c. let z = c .before .before .before in let k = z .before in let t = k .before in rw (sym (t .before .is-saved .ensures) ∙ t .if1 .taken, z .frame-size .ensures, k .read .ensures))
     (λ c. rw (sym (c .before .is-saved .ensures) ∙ c .if1 .left)))

@@ -4,7 +4,7 @@
 pub const NO_CONTROLLER: u32 = 255;
 
 /// What `send` answers where it does nothing.
-pub const NOT_SENT: u32 = 0xFFFF_FFFF;
+pub const NOTHING_SENT: u32 = 0xFFFF_FFFF;
 
 mod c {
     #[link(name = "granivolche", kind = "static")]

@@ -1,6 +1,6 @@
 //! What the library's functions are to do, worked out by the reference: a saved controller is read, called, and written back.
 
-use crate::calls::{NOT_SENT, NO_CONTROLLER};
+use crate::calls::{NOTHING_SENT, NO_CONTROLLER};
 use crate::saved;
 use reference::model::Controller;
 
@@ -42,10 +42,10 @@ pub fn data_read(controller: &mut [u8], memory: &[u8]) -> u32 {
 }
 
 pub fn send(controller: &mut [u8], memory: &mut [u8], bytes: &[u8], answers: &mut [u8]) -> u32 {
-    if bytes.is_empty() || bytes.len() >= NOT_SENT as usize || answers.len() != bytes.len() {
-        return NOT_SENT;
+    if bytes.is_empty() || bytes.len() >= NOTHING_SENT as usize || answers.len() != bytes.len() {
+        return NOTHING_SENT;
     }
-    change(controller, NOT_SENT, |controller| {
+    change(controller, NOTHING_SENT, |controller| {
         for (index, (byte, answer)) in bytes.iter().zip(answers.iter_mut()).enumerate() {
             let outcome = if index == 0 { controller.command_write(*byte) } else { controller.data_write(memory, *byte) };
             *answer = outcome.err().unwrap_or(0);

@@ -1,6 +1,6 @@
-//! A record of 0xFFFFFFFF bytes, which `send` does not carry out: a count of refusals could be taken for its NOT_SENT.
+//! A record of 0xFFFFFFFF bytes, which `send` does not carry out: a count of refusals could be taken for its NOTHING_SENT.
 
-use host::calls::{self, NOT_SENT};
+use host::calls::{self, NOTHING_SENT};
 use host::guarded::Guarded;
 use host::saved;
 use reference::model::Controller;
@@ -17,13 +17,13 @@ pub fn check() -> bool {
 }
 
 fn nothing_done() -> Result<(), String> {
-    const LENGTH: usize = NOT_SENT as usize;
+    const LENGTH: usize = NOTHING_SENT as usize;
     // The system clears a page when it is first touched, so that these take no room while nobody does.
     let (bytes, mut answers) = (vec![0; LENGTH], vec![0; LENGTH]);
     let (saved, content) = (saved::write(&Controller::reset()), vec![0x55; MEMORY_SIZE]);
     let (mut controller, mut memory) = (Guarded::new(&saved), Guarded::new(&content));
     let answer = calls::send(controller.lent(), memory.lent(), &bytes, &mut answers);
-    if answer != NOT_SENT {
+    if answer != NOTHING_SENT {
         return Err(format!("the answer is {:X}", answer));
     }
     // Code 00 and data for it would be refused.

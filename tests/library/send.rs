@@ -1,14 +1,14 @@
 //! Counts what records reached: a command byte and its data writes in one call.
 
 use crate::watch::{wrong_memory, Seen};
-use host::calls::NOT_SENT;
+use host::calls::NOTHING_SENT;
 use host::saved;
 use reference::commands::*;
 use reference::model::Controller;
 use support::counts::Counts;
 
 pub fn watch(controller: &Controller, bytes: &[u8], answers: usize, seen: &Seen, counts: &mut Counts) {
-    if seen.answer == NOT_SENT {
+    if seen.answer == NOTHING_SENT {
         return refused(bytes.len(), answers, counts);
     }
     if seen.answer == 0 {

@@ -28,13 +28,16 @@ static void load(const char *name, FILE *file, void *bytes, size_t size) {
     fclose(file);
 }
 
-/* Whole or not at all: the file is written under another name, which it keeps until all of it is there. */
+/* Whole or not at all, if one job at a time has it: the file is written under another name, which it keeps until all of
+ * it is there. */
 static void save(const char *name) {
     char other[FILENAME_MAX];
     if (snprintf(other, sizeof other, "%s.new", name) >= (int)sizeof other)
         FAIL("%s: the name is too long\n", name);
     FILE *file = fopen(other, "wb");
-    if (file == NULL || fwrite(&state, sizeof state, 1, file) != 1 || fclose(file) != 0 || rename(other, name) != 0) {
+    if (file == NULL)
+        FAIL("%s: it cannot be made: %s\n", other, strerror(errno));
+    if (fwrite(&state, sizeof state, 1, file) != 1 || fclose(file) != 0 || rename(other, name) != 0) {
         fprintf(stderr, "%s: it cannot be saved: %s\n", name, strerror(errno));
         remove(other);
         exit(EXIT_FAILURE);
@@ -49,7 +52,7 @@ static size_t next_record(uint8_t *payload, size_t most) {
         return 0;
     size_t length = got == sizeof header ? header[0] + 256u * header[1] : 0;
     if (length == 0 || length > most || header[2] != 1 || header[3] != 0 || fread(payload, 1, length, stdin) != length)
-        FAIL("standard input: a record is cut, or is not of kind 1\n");
+        FAIL("standard input: a record cannot be read, is cut, or is not of kind 1\n");
     return length;
 }
 
@@ -81,11 +84,14 @@ int main(int count, char **arguments) {
         load(arguments[1], file, &state, sizeof state);
     if (granivolche_frame_size(CONTROLLER) == 0)
         FAIL("%s: it holds no controller\n", arguments[1]);
-    for (unsigned long record = 1; (length = next_record(payload, sizeof payload)) != 0; record++)
-        if (granivolche_send(CONTROLLER, MEMORY, payload, length, answers, length) != 0)
-            for (size_t i = 0; i < length; i++)
-                if (answers[i] != GRANIVOLCHE_ACCEPTED)
-                    fprintf(stderr, "refused %lu %zu %u\n", record, i + 1, answers[i]);
+    for (unsigned long record = 1; (length = next_record(payload, sizeof payload)) != 0; record++) {
+        uint32_t refused = granivolche_send(CONTROLLER, MEMORY, payload, length, answers, length);
+        if (refused == GRANIVOLCHE_NOTHING_SENT)
+            FAIL("record %lu: it cannot be sent\n", record);
+        for (size_t i = 0; refused != 0 && i < length; i++)
+            if (answers[i] != GRANIVOLCHE_ACCEPTED)
+                fprintf(stderr, "refused %lu %zu %u\n", record, i + 1, answers[i]);
+    }
     save(arguments[1]);
     write_picture();
     return 0;

@@ -1,8 +1,8 @@
 /* Granivolche: a proved model of the S1D13700 display controller, for C and for all that calls C.
  *
- * The host keeps a controller as GRANIVOLCHE_CONTROLLER_SIZE bytes, its display memory of GRANIVOLCHE_MEMORY_SIZE bytes
- * and a font of GRANIVOLCHE_FONT_SIZE bytes, and lends them to each call. A row of dots is a byte a dot. docs/REFERENCE.md
- * has the chip's rules, and under 'The library' the bytes of a controller.
+ * The host keeps a controller as GRANIVOLCHE_CONTROLLER_SIZE bytes, its display memory, for an S1D13700
+ * GRANIVOLCHE_MEMORY_SIZE bytes, and a font of GRANIVOLCHE_FONT_SIZE bytes, and lends them to each call. A row of dots is a
+ * byte a dot. docs/REFERENCE.md has the chip's rules, and under 'The library' the bytes of a controller.
  *
  * The proof takes this from a caller, and C does not check it:
  * - A length is true: so many bytes may be read at the pointer, and written where it does not point to const.
@@ -28,24 +28,24 @@ extern "C" {
 #define GRANIVOLCHE_MEMORY_SIZE 32768
 #define GRANIVOLCHE_FONT_SIZE 1280
 
-/* The low byte of an answer is the number of a refusal or one of these two, where a function says nothing else. After
- * GRANIVOLCHE_NO_CONTROLLER and GRANIVOLCHE_NOTHING_SENT nothing has changed. After all other answers a controller that is
- * not const is written back in the form that docs/REFERENCE.md gives, also where the call was refused. */
+/* In the low byte of an answer, where a function answers a refusal's number: accepted, or bytes that are no saved
+ * controller, of another length or another format. Then nothing has changed; after every other answer a controller that
+ * is not const is written back in the form that docs/REFERENCE.md gives, also where the call was refused. */
 #define GRANIVOLCHE_ACCEPTED 0
-#define GRANIVOLCHE_NO_CONTROLLER 255 /* the bytes are no saved controller: another length or another format */
+#define GRANIVOLCHE_NO_CONTROLLER 255
 
 /* What granivolche_send answers where it does nothing. It is never a count. */
 #define GRANIVOLCHE_NOTHING_SENT 0xFFFFFFFFu
 
 /* The refusals. Names are the manual's; [FX] and the like are counts, one more than the stored code. */
 enum {
-    GRANIVOLCHE_REFUSED_MEMORY_SIZE = 1,      /* memory is not GRANIVOLCHE_MEMORY_SIZE bytes */
+    GRANIVOLCHE_REFUSED_MEMORY_SIZE = 1,      /* memory is not of the chip's size */
     GRANIVOLCHE_REFUSED_UNKNOWN_COMMAND = 2,  /* the byte is no command; the pending command ends */
     GRANIVOLCHE_REFUSED_NOTHING_WANTED = 3,   /* a data write, and no parameter or memory byte is wanted */
     GRANIVOLCHE_REFUSED_NOT_ALLOWED = 4,      /* a parameter with a value that is not allowed; the pending command ends */
     GRANIVOLCHE_REFUSED_ASLEEP = 5,           /* asleep, and the command is not SYSTEM SET; the pending command ends */
     GRANIVOLCHE_REFUSED_NOTHING_TO_READ = 6,  /* a data read, and nothing is to be read */
-    GRANIVOLCHE_REFUSED_OUTSIDE_MEMORY = 7,   /* a memory byte at 8000h or above; the cursor moves as usual */
+    GRANIVOLCHE_REFUSED_OUTSIDE_MEMORY = 7,   /* a byte outside memory, at 8000h or above; the cursor moves */
     GRANIVOLCHE_REFUSED_FONT_SIZE = 8,        /* the font is not GRANIVOLCHE_FONT_SIZE bytes */
     GRANIVOLCHE_REFUSED_GREY_MODE = 9,        /* grey, and DM not 11 or [FX] not 8 */
     GRANIVOLCHE_REFUSED_CHARACTER_WIDTH = 10, /* [FX] above 8 */
@@ -64,16 +64,18 @@ enum {
  * where the length is another. Memory is the host's to clear. */
 uint32_t granivolche_reset(uint8_t *controller, size_t controller_length);
 
-/* A command write. It answers 0, 2, 5 or 19; each of these refusals ends the pending command, and nothing else changes. */
+/* A command write. It answers 0, 2, 5, 19 or GRANIVOLCHE_NO_CONTROLLER; 2, 5 and 19 end the pending command, and
+ * change nothing else. */
 uint32_t granivolche_command_write(uint8_t *controller, size_t controller_length, uint8_t byte);
 
-/* A data write: a parameter, or a byte of memory. It answers 0, 1, 3, 4 or 7. 4 ends the pending command, 7 moves the
- * cursor, and besides this a refused write changes nothing. */
+/* A data write: a parameter, or a byte of memory. It answers 0, 1, 3, 4, 7 or GRANIVOLCHE_NO_CONTROLLER. 4 ends the
+ * pending command, 7 moves the cursor, and besides this a refused write changes nothing. */
 uint32_t granivolche_data_write(uint8_t *controller, size_t controller_length, uint8_t *memory, size_t memory_length,
                                 uint8_t byte);
 
-/* A data read. It answers the number (0, 1, 6 or 7) + 256 x the value that was read, which is 0 where it is refused. A
- * read moves the cursor or the place of what is read next; 7 moves the cursor, and 1 and 6 change nothing. */
+/* A data read. It answers the number (0, 1, 6, 7 or GRANIVOLCHE_NO_CONTROLLER) + 256 x the value that was read, which is 0
+ * where it is refused. A read moves the cursor or the place of what is read next; 7 moves the cursor, and 1 and 6 change
+ * nothing. */
 uint32_t granivolche_data_read(uint8_t *controller, size_t controller_length, const uint8_t *memory, size_t memory_length);
 
 /* A kind 1 record of a bus file: a command write of the first byte and a data write of each other byte, those after a
@@ -84,8 +86,9 @@ uint32_t granivolche_send(uint8_t *controller, size_t controller_length, uint8_t
                           const uint8_t *bytes, size_t bytes_length, uint8_t *answers, size_t answers_length);
 
 /* Composes a row of a frame, counted from 0 at the top: dots gets its dots from left to right, each 0 or 1, at 2 bits a
- * dot 0 to 3, at 4 bits 0 to 15. The frame number serves flashing alone. It answers 0, 1 or 8 to 18, and a refused row
- * leaves dots as they are. Where row 0 is accepted, every row of the frame is. */
+ * dot 0 to 3, at 4 bits 0 to 15. The frame number serves flashing alone. It answers 0, 1, 8 to 18 or
+ * GRANIVOLCHE_NO_CONTROLLER, and a refused row leaves dots as they are. Where row 0 is accepted, every row of the frame
+ * is. */
 uint32_t granivolche_row(const uint8_t *controller, size_t controller_length, const uint8_t *memory, size_t memory_length,
                          const uint8_t *font, size_t font_length, uint32_t frame, uint32_t row, uint8_t *dots,
                          size_t dots_length);

@@ -27,13 +27,15 @@ pub fn answers(text: &str, functions: &'static Functions, lend: Lend) -> Result<
 /// Prints each difference and, as the last line, 'N passed, M failed'; answers whether nothing failed.
 pub fn vectors(folder: &str, lend: Lend) -> Result<bool, String> {
     let entries = fs::read_dir(folder).map_err(|error| format!("{}: {}", folder, error))?;
-    let mut lists: Vec<PathBuf> = entries.filter_map(|entry| Some(entry.ok()?.path())).collect();
-    lists.retain(|path| path.extension().map_or(false, |extension| extension == "calls"));
-    lists.sort();
+    let mut files: Vec<PathBuf> = entries.filter_map(|entry| Some(entry.ok()?.path())).collect();
+    files.sort();
+    let (lists, others): (Vec<PathBuf>, Vec<PathBuf>) =
+        files.into_iter().partition(|path| path.extension().map_or(false, |extension| extension == "calls"));
     let (mut passed, mut failed) = (0, 0);
-    if lists.len() != VECTORS {
+    // Each list has its answers, which are read below.
+    if lists.len() != VECTORS || others.len() != VECTORS {
         failed += 1;
-        println!("there are {} lists, not {}", lists.len(), VECTORS);
+        println!("there are {} lists and {} other files, not {} of each", lists.len(), others.len(), VECTORS);
     }
     for path in lists {
         for (name, functions) in [("library", &LIBRARY), ("reference", &REFERENCE)] {
@@ -54,6 +56,9 @@ fn vector(path: &Path, functions: &'static Functions, lend: Lend) -> Result<(), 
     let read = |path: PathBuf| fs::read_to_string(&path).map_err(|error| format!("{}: {}", path.display(), error));
     let (list, stored) = (read(path.to_path_buf())?, read(path.with_extension("answers"))?);
     let answered = answers(&list, functions, lend)?;
+    if answered.is_empty() {
+        return Err("nothing is answered".to_string());
+    }
     if answered == stored {
         return Ok(());
     }

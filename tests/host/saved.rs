@@ -1,4 +1,4 @@
-//! A saved controller: 48 bytes, words little-endian, a flag 0 or 1. The places of the fields are named here.
+//! A saved controller as the reference reads and writes it: 48 bytes, words little-endian, a flag 0 or 1.
 
 use reference::commands::command_of;
 use reference::model::{Controller, NONE};

@@ -2,7 +2,7 @@
 //! can bring about.
 //!
 //!     library [FIRST_SEED [SEEDS]]   by default seeds 1 to 20,000
-//!     library --longest              a record too long to be sent
+//!     library --long                 records longer than any of a bus file
 //!
 //! With --exact before the seeds, bytes are lent in allocations of exactly their size, for valgrind, and not between guards.
 //!
@@ -12,7 +12,7 @@
 
 mod cases;
 mod compare;
-mod longest;
+mod long;
 mod required;
 mod send;
 mod watch;
@@ -28,12 +28,12 @@ fn main() -> ExitCode {
     let (lend, words) = lending(&words);
     let numbers: Result<Vec<u64>, _> = words.iter().map(|word| word.parse()).collect();
     let passed = match (words, numbers.as_deref()) {
-        (["--longest"], _) => longest::check(),
+        (["--long"], _) => long::check(lend),
         (_, Ok([])) => over_seeds(1, SEEDS, lend),
         (_, Ok([first])) => over_seeds(*first, SEEDS, lend),
         (_, Ok([first, seeds])) => over_seeds(*first, *seeds, lend),
         _ => {
-            eprintln!("usage: library [--exact] [FIRST_SEED [SEEDS]] or library --longest");
+            eprintln!("usage: library [--exact] [FIRST_SEED [SEEDS]] or library --long");
             false
         }
     };

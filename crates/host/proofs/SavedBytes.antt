@@ -1,7 +1,7 @@
 -- Saved controllers: laws on their bytes, and that reading and saving undo each other.
-use Prim.Native.Nat.{ℕ, zero, suc, _+_, _*_, _<_}
+use Prim.Native.Nat.{ℕ, _+_, _*_, _<_}
 use mathlib.Core.Bool.{Bool, true, false}
-use mathlib.Core.List.{List, [], _∷_}
+use mathlib.Core.List.{List}
 use mathlib.Core.Path.{_≡_, refl, sym, _∙_}
 use native.Mathlib.Omega.{arith}
 use borrow.Author.Tests.{eqb-true}
@@ -18,6 +18,7 @@ use Rattle.dots.specs.Tables.{table}
 use Rattle.dots.proofs.Tables.{is-table}
 use Rattle.model.specs.declared.Controller.{Controller}
 use Rattle.model.specs.Refresh.{All, Byte}
+use Rattle.model.proofs.Runs.{byte-at}
 use Rattle.host.specs.Saved.{byteAt, isSaved, flag, low, high, directionNumber, directionNumbered, savedBytes, controllerOf, InLayout, SavedForm}
 
 -- a flag cast to a byte
@@ -68,11 +69,6 @@ direction-saved : (d : ℕ) → d < 4 → directionNumber (directionNumbered d) 
 unfolding directionNumbered directionOf
 direction-saved = below4 (λ d. directionNumber (directionNumbered d) ≡ d) refl refl refl refl
 
-byte-below : (s : List ℕ) → All Byte s → (i : ℕ) → byteAt s i < 256
-byte-below [] all i = omega arith
-byte-below (b ∷ s) all zero = all .0
-byte-below (b ∷ s) all (suc i) = byte-below s (all .1) i
-
 -- The whole form
 
 saved-read : (c : Controller) → controllerOf (savedBytes c) ≡ c
@@ -95,10 +91,10 @@ unfolding controllerOf savedBytes table isSaved
 read-saved s bytes h = each ∙ sym (is-table 48 (byteAt s) s (saved-length s (h .saved)) (λ k lt. refl))
   where
     low-saved : (i j : ℕ) → low (byteAt s i + 256 * byteAt s j) ≡ byteAt s i
-    low-saved i j = omega (arith, byte-below s bytes i)
+    low-saved i j = omega (arith, byte-at s bytes i)
 
     high-saved : (i j : ℕ) → high (byteAt s i + 256 * byteAt s j) ≡ byteAt s j
-    high-saved i j = omega (arith, byte-below s bytes i)
+    high-saved i j = omega (arith, byte-at s bytes i)
 
     each : savedBytes (controllerOf s) ≡ table 48 (byteAt s)
     each =

@@ -3,10 +3,10 @@ use Prim.Native.Nat.{ℕ, zero, suc, _+_, _<_, _≤_, zero-le}
 use mathlib.Core.Bool.{true}
 use mathlib.Core.List.{List, [], _∷_, _++_, map, map-append}
 use mathlib.Core.Path.{_≡_, refl, sym, ap, _∙_}
-use native.Mathlib.Nat.{zero-add, add-zero}
+use native.Mathlib.Nat.{zero-add, lt-of-le-of-lt}
 use native.Mathlib.Numerals.{add-one}
 use native.Mathlib.Omega.{arith}
-use lib.ListN.{length, getD, set, take, drop, replicate, length-drop, length-replicate, getD-replicate}
+use lib.ListN.{length, getD, set, take, drop, replicate, length-map, length-drop, length-replicate, getD-replicate}
 use lib.Seq.{take-all, take-suc, take-suc-set, take-add, length-take-le, getD-take, getD-drop, ext-getD}
 use borrow.Author.Tests.{eqb-true, ltb-true}
 use Rattle.choice.specs.Choice.{_<?_, _=?_}
@@ -19,7 +19,7 @@ use Rattle.model.specs.Calls.{BusCall, write, call, busCalls, after, outcomes}
 use Rattle.model.specs.Refresh.{All}
 use Rattle.model.specs.WriteRun.{runLength, RunOutcome, runOutcome}
 use Rattle.model.proofs.WriteRuns.{run-within, run-accepted}
-use Rattle.host.specs.Sending.{numbers, refusal, refusals, SendOutcome, answered, sendOutcome, nothingSent, isSendable, sendReturned, sendSaved, afterSend}
+use Rattle.host.specs.Sending.{numbers, refusalCount, refusals, SendOutcome, answered, sendOutcome, nothingSent, isSendable, sendReturned, sendSaved, afterSend}
 use Rattle.host.specs.Saved.{isSaved, controllerOf, savedBytes}
 use Rattle.host.specs.Calls.{returned}
 
@@ -41,8 +41,20 @@ calls-append : (xs ys : List ℕ) → 0 < length xs → busCalls (xs ++ ys) ≡ 
 calls-append [] ys h = absurd (omega arith)
 calls-append (x ∷ xs) ys h = rw (map-append write xs ys)
 
-pub one-refusal : (n : ℕ) → refusal n ≤ 1
+pub one-refusal : (n : ℕ) → refusalCount n ≤ 1
 one-refusal n = choose (λ (k : ℕ). k ≤ 1) (n =? 0) 0 1 (λ h. zero-le) (λ h. omega arith)
+
+refusals-within : (ns : List ℕ) → refusals ns ≤ length ns
+refusals-within [] = zero-le
+refusals-within (n ∷ ns) = omega (arith, one-refusal n, refusals-within ns)
+
+numbers-length : (m : Machine) (cs : List BusCall) → length (numbers m cs) ≡ length cs
+numbers-length m [] = refl
+numbers-length m (c ∷ cs) = ap suc (numbers-length (call m c .machine) cs)
+
+calls-length : (bytes : List ℕ) → length (busCalls bytes) ≡ length bytes
+calls-length [] = refl
+calls-length (b ∷ bs) = ap suc (length-map bs write)
 
 -- Calls that are accepted
 
@@ -65,7 +77,7 @@ pub record SentSoFar (m₀ : Machine) (bytes : List ℕ) (i refused : ℕ) (m : 
 
 -- the command byte
 pub command-sent : (m₀ : Machine) (bytes answers : List ℕ) {k : Controller} {a : Reply} {memory : List ℕ} {n r : ℕ} → 0 < length bytes → 0 < length answers
-    → record { machine = machine k memory; reply = a } ≡ commandWrite m₀ (getD bytes 0 0) → n ≡ a .refusal → r ≡ refusal n
+    → record { machine = machine k memory; reply = a } ≡ commandWrite m₀ (getD bytes 0 0) → n ≡ a .refusal → r ≡ refusalCount n
     → SentSoFar m₀ bytes 1 r (machine k memory) (set answers 0 n)
 command-sent m₀ [] [] h l e n r = absurd (omega arith)
 command-sent m₀ [] (x ∷ xs) h l e n r = absurd (omega arith)
@@ -113,7 +125,7 @@ module _ {m₀ : Machine} {bytes : List ℕ} {i refused : ℕ} {m : Machine} {an
 
   -- one more
   pub write-sent : {k : Controller} {a : Reply} {memory : List ℕ} {n r : ℕ} → i < length bytes → i < length answers
-      → record { machine = machine k memory; reply = a } ≡ dataWrite m (getD bytes i 0) → n ≡ a .refusal → r ≡ refused + refusal n
+      → record { machine = machine k memory; reply = a } ≡ dataWrite m (getD bytes i 0) → n ≡ a .refusal → r ≡ refused + refusalCount n
       → SentSoFar m₀ bytes (i + 1) r (machine k memory) (set answers i n)
   write-sent h l e number count =
       let told = ap (λ (o : Outcome). o .reply .refusal) e in
@@ -138,6 +150,12 @@ sendable s bytes answers e =
     let u = both-true _ (length bytes <? nothingSent) (t .0) in
     let v = both-true (length answers =? length bytes) (0 <? length bytes) (u .0) in
     (t .1, ltb-true _ _ (v .1), ltb-true _ _ (u .1), eqb-true _ _ (v .0))
+
+-- the answer of a record that is sent is a count below the one that says that nothing is
+pub never-a-count : (s bytes answers : List ℕ) (m : Machine) → isSendable s bytes answers ≡ true → sendOutcome m bytes .refused < nothingSent
+never-a-count s bytes answers m e =
+    let few : refusals (numbers m (busCalls bytes)) ≤ length bytes = rw (← calls-length bytes, ← numbers-length m (busCalls bytes)) (refusals-within (numbers m (busCalls bytes))) in
+    lt-of-le-of-lt few (sendable s bytes answers e .2)
 
 pub send-saved : (s memory bytes answers : List ℕ) {k : Controller} {o : SendOutcome} {s′ : List ℕ} → isSendable s bytes answers ≡ true
     → k ≡ controllerOf s → o ≡ sendOutcome (machine k memory) bytes → s′ ≡ savedBytes (o .machine .controller)

@@ -14,13 +14,13 @@ use Rattle.host.specs.Calls.{Returned, returned, saving}
 abbrev pub numbers : Machine → List BusCall → List ℕ
 numbers m cs = map (λ o. o .reply .refusal) (outcomes m cs)
 
-abbrev pub refusal : ℕ → ℕ
-refusal number = if number =? 0 then 0 else 1
+abbrev pub refusalCount : ℕ → ℕ
+refusalCount number = if number =? 0 then 0 else 1
 
 -- how many of them are refusals
 abbrev pub refusals : List ℕ → ℕ
 refusals [] = 0
-refusals (n ∷ ns) = refusal n + refusals ns
+refusals (n ∷ ns) = refusalCount n + refusals ns
 
 -- what the calls of a record leave and answer, and how many are refused
 pub record SendOutcome : Type 0 where

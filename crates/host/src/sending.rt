@@ -12,11 +12,11 @@ ghost use mathlib.Core.Path.{_≡_};
 ghost use lib.ListN.{length};
 ghost use Rattle.model.specs.Machine.{machine};
 ghost use Rattle.host.specs.Calls.{returned};
-ghost use Rattle.host.specs.Sending.{refusal, nothingSent, sendOutcome, sentOutcome, isSendable, sendReturned, afterSend};
+ghost use Rattle.host.specs.Sending.{refusalCount, nothingSent, sendOutcome, sentOutcome, isSendable, sendReturned, afterSend};
 
 // 1 where a number is a refusal's.
-fn refusal(number: u8) -> u32
-    ensures { λ r. ⌜ r ≡ refusal number ⌝ }
+fn refusal_count(number: u8) -> u32
+    ensures { λ r. ⌜ r ≡ refusalCount number ⌝ }
 {
     if number == 0 { 0 } else { 1 }
 }
@@ -35,7 +35,7 @@ fn send(c: Controller, memory: &mut [u8], bytes: &[u8], answers: &mut [u8]) -> S
     let controller = written.controller;
     let run = controller.write_run(memory, &bytes[1..]);
     let mut controller = run.controller;
-    let mut refused = refusal(first);
+    let mut refused = refusal_count(first);
     let mut i = 1 + run.length;
     while i < bytes.len() {
         let b = bytes[i];
@@ -44,7 +44,7 @@ fn send(c: Controller, memory: &mut [u8], bytes: &[u8], answers: &mut [u8]) -> S
         let answer = written.answer;
         let n = number(answer);
         answers[i] = n;
-        refused += refusal(n);
+        refused += refusal_count(n);
         i += 1;
     }
     Sent {

@@ -2,12 +2,13 @@
 use Prim.Native.Nat.{ℕ, zero, suc}
 use mathlib.Core.List.{List, [], _∷_, _++_}
 use mathlib.Core.Path.{_≡_, refl, sym, subst, _∙_}
-use lib.ListN.{length, replicate, length-set}
+use native.Mathlib.Omega.{arith}
+use lib.ListN.{length, getD, replicate, length-set}
 use Rattle.choice.proofs.Cases.{choose}
 use Rattle.model.specs.Machine.{Machine, Outcome}
 use Rattle.model.specs.Bus.{commandWrite, writeMemory, writeParameter, dataWrite, readMemory, readCursor, dataRead}
 use Rattle.model.specs.Calls.{BusCall, command, write, read, call, after, outcomes}
-use Rattle.model.specs.Refresh.{All}
+use Rattle.model.specs.Refresh.{All, Byte}
 
 pub record Runs (P : Outcome → Type 0) (m : Machine) (cs : List BusCall) (m′ : Machine) : Type 0 where
   pub leads : after m cs ≡ m′
@@ -41,6 +42,12 @@ runs-weaker f {m} {cs = cs} h = record { leads = h .leads; answered = all-weaker
 pub all-replicate : {A : Type 0} (P : A → Type 0) (x : A) → P x → (n : ℕ) → All P (replicate n x)
 all-replicate P x p zero = tt
 all-replicate P x p (suc n) = (p, all-replicate P x p n)
+
+-- a byte past the end is 0
+pub byte-at : (s : List ℕ) → All Byte s → (i : ℕ) → Byte (getD s i 0)
+byte-at [] h i = omega arith
+byte-at (b ∷ bs) h zero = h .0
+byte-at (b ∷ bs) h (suc i) = byte-at bs (h .1) i
 
 abbrev SameSize : Machine → Outcome → Type 0
 SameSize m o = length (o .machine .memory) ≡ length (m .memory)

@@ -16,7 +16,7 @@ pub data BusCall : Type 0 where
 abbrev pub sending : ℕ → List ℕ → List BusCall
 sending code bs = command code ∷ map write bs
 
--- the same as bytes, the command's code first
+-- 'Bus files', a record of kind 1: the same as bytes, the command's code first
 abbrev pub busCalls : List ℕ → List BusCall
 busCalls [] = []
 busCalls (b ∷ bs) = sending b bs

@@ -21,6 +21,7 @@ use Rattle.model.specs.Bus.{commandWrite, dataWrite, dataRead, writeMemory, wri
 use Rattle.model.specs.Calls.{BusCall, command, write, read, busCalls, call}
 use Rattle.model.specs.Machine.{Machine, Outcome}
 use Rattle.model.specs.Refresh.{All, Byte}
+use Rattle.model.proofs.Runs.{byte-at}
 use Rattle.busfile.specs.declared.Kind.the-variants.{Bus, Reads, Frame}
 use Rattle.busfile.specs.Records.{wordOf, doubleWordOf}
 use Rattle.lines.specs.Lines.{ascii, refusedLine, readLine, frameLine}
@@ -112,12 +113,6 @@ frame-short r m font frame h l f =
     (λ n. few-dots registers (m .memory) font frame n (size .width))
 
 -- The numbers in a payload of bytes
-
--- a byte past the end is 0
-byte-at : (s : List ℕ) → All Byte s → (i : ℕ) → Byte (getD s i 0)
-byte-at [] h i = omega arith
-byte-at (b ∷ bs) h zero = h .0
-byte-at (b ∷ bs) h (suc i) = byte-at bs (h .1) i
 
 word-below : (s : List ℕ) → ((i : ℕ) → Byte (getD s i 0)) → wordOf s < 2 ^ 16
 unfolding wordOf

@@ -1,4 +1,4 @@
-use mathlib.Core.Path.{sym, _∙_}
+use mathlib.Core.Path.{_∙_}
 use Rattle.host.specs.Saved.{savedBytes}
 use Rattle.choice.proofs.Parts.{copied}
 use borrow.Author.Needs.{needs}

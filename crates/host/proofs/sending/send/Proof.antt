@@ -53,11 +53,11 @@ as-long c =
 add-refused : tie.Need-add-refused Inv-loop μ-loop
 add-refused c =
     let t = c .before .before .before .before .before .before .before .before in
-    let one : c .refusal2 .result ≤ 1 = rw (c .refusal2 .ensures) (one-refusal (c .before .number2 .result)) in
+    let one : c .refusal-count2 .result ≤ 1 = rw (c .refusal-count2 .ensures) (one-refusal (c .before .number2 .result)) in
     omega (arith, one, t .before .loop .inv .1, t .loop-test .taken, t .before .before .before .before .before .before .before .before .before .before .before .before .before .before .before .before .before .before .before .before .before .pre .1)
 
 loop-holds : tie.Need-loop-holds Inv-loop μ-loop
-loop-holds c = (λ m₀ s. s, rw (c .before .refusal .ensures) (omega (arith, one-refusal (c .before .before .before .before .before .before .before .before .before .number .result))), refl, refl)
+loop-holds c = (λ m₀ s. s, rw (c .before .refusal-count .ensures) (omega (arith, one-refusal (c .before .before .before .before .before .before .before .before .before .number .result))), refl, refl)
 
 loop-again : tie.Need-loop-again Inv-loop μ-loop
 loop-again c =
@@ -67,8 +67,8 @@ loop-again c =
     let s = t .before .before .before .before .before .before .before .before .before .before .before .before .before .before .before .before in
     let a = s .before .before .before .before .before in
     let same = l .inv .3 ∙ told-length _ _ _ (s .clear .ensures) ∙ a .pre .2 in (
-      λ m₀ k. write-sent (l .inv .0 m₀ k) (t .loop-test .taken) (rw same (t .loop-test .taken)) (w .data-write .ensures) (c .before .number2 .ensures) (ap (λ (k : ℕ). l .refused + k) (c .refusal2 .ensures)),
-      rw (c .refusal2 .ensures) (omega (arith, l .inv .1, one-refusal (c .before .number2 .result))),
+      λ m₀ k. write-sent (l .inv .0 m₀ k) (t .loop-test .taken) (rw same (t .loop-test .taken)) (w .data-write .ensures) (c .before .number2 .ensures) (ap (λ (k : ℕ). l .refused + k) (c .refusal-count2 .ensures)),
+      rw (c .refusal-count2 .ensures) (omega (arith, l .inv .1, one-refusal (c .before .number2 .result))),
       search needs,
       search needs,
     )
@@ -84,7 +84,7 @@ returns c =
     let a = s .before .before .before .before .before in
     let same = told-length _ _ _ (s .clear .ensures) ∙ a .pre .2 in
     let m₀ = machine (a .args .c) (a .args .memory .now) in
-    let first = command-sent m₀ (a .args .bytes .now) (s .clear .last .0) (a .pre .0) (told-some _ _ (s .clear .ensures) (rw (a .pre .2) (a .pre .0))) (w .command-write .ensures (a .args .memory .now)) (k .number .ensures) (f .refusal .ensures) in
+    let first = command-sent m₀ (a .args .bytes .now) (s .clear .last .0) (a .pre .0) (told-some _ _ (s .clear .ensures) (rw (a .pre .2) (a .pre .0))) (w .command-write .ensures (a .args .memory .now)) (k .number .ensures) (f .refusal-count .ensures) in
     let run = run-sent first (rw part-to-end at (r .write-run .ensures)) (told-zeros (s .clear .last .0) (k .number .result) (s .clear .ensures) (a .pre .2)) same in
     all-sent (l .inv .0 m₀ run) (c .loop-test .left) (l .inv .3 ∙ same)
 

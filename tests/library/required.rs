@@ -7,13 +7,14 @@ use reference::model::NONE;
 use support::counts::Event;
 use support::sleep::WITH_DATA;
 
-const PLAIN: [&str; 43] = [
+const PLAIN: [&str; 44] = [
     "reset of bytes that are no controller",
     "another format",
     "a controller of another length",
     "bytes kept for later, written back as 0",
     "direction above 3 moves right",
     "pending code of no command wants nothing",
+    "parameter stored for a code that is not the first of its row",
     "place past the reads of CSRR",
     "MWRITE at a place that isn't 0",
     "MREAD of a byte that isn't 0 at a place that isn't 0",

@@ -128,6 +128,9 @@ fn data_write(controller: &Controller, before: &Kept, number: u8, after: &Kept, 
         }
         0 => {
             counts.hit("parameter # of $ stored", &[place + 1, pending]);
+            if before.controller[saved::PENDING] != pending {
+                counts.hit("parameter stored for a code that is not the first of its row", &[]);
+            }
             for (at, end) in LIMITED {
                 if before.controller[at] >= end && after.controller[at] < end {
                     counts.hit("field at # outside its layout replaced by a parameter", &[at as u8]);

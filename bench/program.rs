@@ -12,7 +12,7 @@ pub struct Program {
 }
 
 impl Program {
-    /// Instructions of the program on a bus file, or nothing where callgrind is not to be had.
+    /// Instructions of the program on a bus file, or nothing where callgrind fails.
     fn instructions(&self, bus: &[u8]) -> Option<f64> {
         fs::write(self.folder.join("bus"), bus).ok()?;
         let output = Command::new("valgrind")

@@ -29,7 +29,7 @@ static void load(const char *name, FILE *file, void *bytes, size_t size) {
 }
 
 /* Whole or not at all, if one job at a time has it: the file is written under another name, which it keeps until all of
- * it is there. */
+ * it is there. A host that is to outlive a power cut syncs it before it takes its name. */
 static void save(const char *name) {
     char other[FILENAME_MAX];
     if (snprintf(other, sizeof other, "%s.new", name) >= (int)sizeof other)
@@ -52,7 +52,7 @@ static size_t next_record(uint8_t *payload, size_t most) {
         return 0;
     size_t length = got == sizeof header ? header[0] + 256u * header[1] : 0;
     if (length == 0 || length > most || header[2] != 1 || header[3] != 0 || fread(payload, 1, length, stdin) != length)
-        FAIL("standard input: a record cannot be read, is cut, or is not of kind 1\n");
+        FAIL("standard input: a record cannot be read, is cut, is not of kind 1, or has a wrong length\n");
     return length;
 }
 
@@ -72,7 +72,7 @@ static void write_picture(void) {
 }
 
 int main(int count, char **arguments) {
-    static uint8_t payload[65532], answers[65532];
+    static uint8_t payload[65532], answers[65532]; /* the longest payload of a bus file */
     size_t length;
     if (count != 3)
         FAIL("usage: host STATE FONT <RECORDS\n");

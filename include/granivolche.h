@@ -1,8 +1,8 @@
 /* Granivolche: a proved model of the S1D13700 display controller, for C and for all that calls C.
  *
- * The host keeps a controller as GRANIVOLCHE_CONTROLLER_SIZE bytes, its display memory, for an S1D13700
- * GRANIVOLCHE_MEMORY_SIZE bytes, and a font of GRANIVOLCHE_FONT_SIZE bytes, and lends them to each call. A row of dots is a
- * byte a dot. docs/REFERENCE.md has the chip's rules, and under 'The library' the bytes of a controller.
+ * The host keeps GRANIVOLCHE_CONTROLLER_SIZE bytes for a controller, GRANIVOLCHE_MEMORY_SIZE for its display memory and
+ * GRANIVOLCHE_FONT_SIZE for a font, and lends a call what it works on. A row of dots is a byte a dot. docs/REFERENCE.md has
+ * the chip's rules, and under 'The library' the bytes of a controller.
  *
  * The proof takes this from a caller, and C does not check it:
  * - A length is true: so many bytes may be read at the pointer, and written where it does not point to const.

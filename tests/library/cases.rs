@@ -20,6 +20,21 @@ pub enum Call {
     FrameSize,
 }
 
+impl Call {
+    /// The place of its function in the header, from 1.
+    pub fn function(&self) -> u8 {
+        match self {
+            Call::Reset => 1,
+            Call::CommandWrite(_) => 2,
+            Call::DataWrite(_) => 3,
+            Call::DataRead => 4,
+            Call::Send { .. } => 5,
+            Call::Row(_) => 6,
+            Call::FrameSize => 7,
+        }
+    }
+}
+
 impl fmt::Display for Call {
     fn fmt(&self, f: &mut fmt::Formatter) -> fmt::Result {
         match self {

@@ -1,4 +1,5 @@
-//! What a run must have reached, in the words of `watch.rs` and `send.rs`. Fields and flags go by their place in the saved form.
+//! What a run must have reached, in the words of `watch.rs` and `send.rs`. Fields and flags go by their place in the saved form,
+//! functions by their place in the header.
 
 use host::handed_in::*;
 use host::saved;
@@ -7,11 +8,7 @@ use reference::model::NONE;
 use support::counts::Event;
 use support::sleep::WITH_DATA;
 
-const PLAIN: [&str; 44] = [
-    "reset of bytes that are no controller",
-    "another format",
-    "a controller of another length",
-    "bytes kept for later, written back as 0",
+const PLAIN: [&str; 36] = [
     "direction above 3 moves right",
     "pending code of no command wants nothing",
     "parameter stored for a code that is not the first of its row",
@@ -25,8 +22,6 @@ const PLAIN: [&str; 44] = [
     "bytes and no answers",
     "an answer too few",
     "an answer too many",
-    "send to another format",
-    "send to a controller of another length",
     "send that refuses nothing",
     "send of a command alone",
     "send of a refused command alone",
@@ -35,8 +30,6 @@ const PLAIN: [&str; 44] = [
     "send that wakes",
     "send with a parameter that gets 4 behind one that is taken",
     "send with 3 behind a parameter that gets 4",
-    "frame size of another format",
-    "frame size of a controller of another length",
     "frame size of no dots a row",
     "frame size wider than a row may be",
     "frame size of 256 rows",
@@ -65,6 +58,13 @@ pub fn required() -> Vec<Event> {
         all.extend(numbers.map(|number| (template, vec![number])));
     };
     each("answer #", &mut (0..=19));
+    for template in ["function # on another format", "function # on a controller of another length"] {
+        each(template, &mut (1..=7));
+    }
+    // Those that write a controller back, but reset, of which nothing shows what there was.
+    for template in ["function # writes a flag above 1 back as 0", "function # writes bytes kept for later back as 0"] {
+        each(template, &mut (2..=5));
+    }
     each("CSRR read #", &mut (1..=2));
     for call in [
         "1 on a data write, wrong memory #", "1 on data writes, wrong memory #", "1 on a data read, wrong memory #",

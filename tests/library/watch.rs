@@ -31,16 +31,13 @@ pub fn call(call: &Call, seen: &Seen, counts: &mut Counts) {
     let number = (answer % 256) as u8;
     let outcome = if number == 0 { Ok(()) } else { Err(number) };
     let left = saved::read(&after.controller).expect("a call leaves a saved controller");
+    handed_in_form(call, before, after, counts);
     match call {
         Call::Send { bytes, answers } => return send::watch(&controller, bytes, *answers, seen, counts),
         Call::FrameSize => return frame_size(&controller, answer, counts),
         Call::Reset => {}
-        Call::CommandWrite(byte) => {
-            handed_in_form(before, after, counts);
-            sleep::command_write(&controller, *byte, outcome, &left, counts);
-        }
+        Call::CommandWrite(byte) => sleep::command_write(&controller, *byte, outcome, &left, counts),
         Call::DataWrite(_) => {
-            handed_in_form(before, after, counts);
             data_write(&controller, before, number, after, counts);
             sleep::data_write(&controller, outcome, &left, counts);
         }
@@ -58,17 +55,11 @@ pub fn call(call: &Call, seen: &Seen, counts: &mut Counts) {
 
 /// Bytes that are no saved controller. A record is counted where that alone keeps it from being sent.
 fn no_controller(call: &Call, length: usize, counts: &mut Counts) {
-    let event = match (call, length) {
-        (Call::Reset, saved::LENGTH) => "reset of bytes that are no controller",
-        (Call::Send { bytes, answers }, _) if bytes.is_empty() || *answers != bytes.len() => return,
-        (Call::Send { .. }, saved::LENGTH) => "send to another format",
-        (Call::Send { .. }, _) => "send to a controller of another length",
-        (Call::FrameSize, saved::LENGTH) => "frame size of another format",
-        (Call::FrameSize, _) => "frame size of a controller of another length",
-        (_, saved::LENGTH) => "another format",
-        (_, _) => "a controller of another length",
-    };
-    counts.hit(event, &[]);
+    match call {
+        Call::Send { bytes, answers } if bytes.is_empty() || *answers != bytes.len() => {}
+        _ if length == saved::LENGTH => counts.hit("function # on another format", &[call.function()]),
+        _ => counts.hit("function # on a controller of another length", &[call.function()]),
+    }
 }
 
 pub fn wrong_memory(length: usize) -> u8 {
@@ -98,14 +89,16 @@ fn frame_size(controller: &Controller, answer: u32, counts: &mut Counts) {
 }
 
 /// Bytes outside the saved form, which a call that writes it back mends.
-fn handed_in_form(before: &Kept, after: &Kept, counts: &mut Counts) {
+fn handed_in_form(call: &Call, before: &Kept, after: &Kept, counts: &mut Counts) {
     for flag in saved::FLAGS {
         if before.controller[flag] > 1 && after.controller[flag] == 0 {
             counts.hit("flag at # above 1, written back as 0", &[flag as u8]);
+            counts.hit("function # writes a flag above 1 back as 0", &[call.function()]);
         }
     }
-    if before.controller[saved::LATER].iter().any(|byte| *byte != 0) {
-        counts.hit("bytes kept for later, written back as 0", &[]);
+    let later = |kept: &Kept| kept.controller[saved::LATER].iter().any(|byte| *byte != 0);
+    if later(before) && !later(after) {
+        counts.hit("function # writes bytes kept for later back as 0", &[call.function()]);
     }
 }
 

@@ -5,7 +5,7 @@ mod sending;
 
 use model::Controller;
 
-// The answer where bytes are no saved controller: 48 of format 1. No refusal has this number.
+// The answer where bytes are no saved controller, of another length or another format. No refusal has this number.
 const NO_CONTROLLER: u32 = 255;
 // The answer where nothing is sent. It is no count of refused bytes, as so many are not sent.
 const NOTHING_SENT: u32 = 0xFFFFFFFF;

@@ -101,7 +101,7 @@ pub fn form(controller: &mut Vec<u8>, random: &mut Random) {
     match random.below(6) {
         0 | 1 => flag(controller, random),
         2 => controller[saved::DIRECTION] = random.between(4, 255) as u8,
-        3 => controller[random.between(saved::LATER.start as u32, saved::LATER.end as u32 - 1) as usize] = random.byte(),
+        3 => controller[random.between(saved::RESERVED.start as u32, saved::RESERVED.end as u32 - 1) as usize] = random.byte(),
         4 => controller[0] = random.pick(&[0, 2, 255]),
         _ => controller.resize(random.pick(&[0, 1, 47, 49, 96]), 0),
     }

@@ -10,8 +10,8 @@ pub const FORMAT: u8 = 1;
 pub const PENDING: usize = 2;
 pub const PLACE: usize = 3;
 pub const DIRECTION: usize = 42;
-/// Kept for later; a call writes 0 there.
-pub const LATER: std::ops::Range<usize> = 43..48;
+/// Reserved; a call writes 0 there.
+pub const RESERVED: std::ops::Range<usize> = 43..48;
 
 /// asleep; IV, W/S, M2, M0, WF; D; CM; OV, DM2, DM1.
 pub const FLAGS: [usize; 11] = [1, 4, 5, 6, 7, 8, 16, 30, 32, 33, 34];

@@ -61,8 +61,8 @@ pub fn required() -> Vec<Event> {
     for template in ["function # on another format", "function # on a controller of another length"] {
         each(template, &mut (1..=7));
     }
-    // Those that write a controller back, but reset, of which nothing shows what there was.
-    for template in ["function # writes a flag above 1 back as 0", "function # writes bytes kept for later back as 0"] {
+    // All that write a controller back but reset, which reads nothing of what was there.
+    for template in ["function # writes a flag above 1 back as 0", "function # writes reserved bytes back as 0"] {
         each(template, &mut (2..=5));
     }
     each("CSRR read #", &mut (1..=2));

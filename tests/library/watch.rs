@@ -96,9 +96,9 @@ fn handed_in_form(call: &Call, before: &Kept, after: &Kept, counts: &mut Counts)
             counts.hit("function # writes a flag above 1 back as 0", &[call.function()]);
         }
     }
-    let later = |kept: &Kept| kept.controller[saved::LATER].iter().any(|byte| *byte != 0);
-    if later(before) && !later(after) {
-        counts.hit("function # writes bytes kept for later back as 0", &[call.function()]);
+    let reserved = |kept: &Kept| kept.controller[saved::RESERVED].iter().any(|byte| *byte != 0);
+    if reserved(before) && !reserved(after) {
+        counts.hit("function # writes reserved bytes back as 0", &[call.function()]);
     }
 }
 

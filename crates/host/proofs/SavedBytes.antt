@@ -83,7 +83,7 @@ saved-in-layout c =
       flags = search flag-below;
       pending = rw of-code;
       direction = direction-below (c .registers .cursor .direction);
-      later = search refl;
+      reserved = search refl;
     }
 
 read-saved : (s : List ℕ) → All Byte s → InLayout s → savedBytes (controllerOf s) ≡ s
@@ -99,7 +99,7 @@ read-saved s bytes h = each ∙ sym (is-table 48 (byteAt s) s (saved-length s (h
     each : savedBytes (controllerOf s) ≡ table 48 (byteAt s)
     each =
         let flags = h .flags in
-        let later = h .later in
+        let reserved = h .reserved in
         rw (
           saved-format s (h .saved),
           flag-saved _ (flags .0),
@@ -115,11 +115,11 @@ read-saved s bytes h = each ∙ sym (is-table 48 (byteAt s) s (saved-length s (h
           flag-saved _ (flags .1 .1 .1 .1 .1 .1 .1 .1 .1 .1 .0),
           h .pending,
           direction-saved _ (h .direction),
-          later .0,
-          later .1 .0,
-          later .1 .1 .0,
-          later .1 .1 .1 .0,
-          later .1 .1 .1 .1 .0,
+          reserved .0,
+          reserved .1 .0,
+          reserved .1 .1 .0,
+          reserved .1 .1 .1 .0,
+          reserved .1 .1 .1 .1 .0,
         )
         (simp (low-saved, high-saved))
 

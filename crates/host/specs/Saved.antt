@@ -132,7 +132,7 @@ savedBytes c =
     ∷ r .hdot ∷ r .grey
     -- 40: cursor, direction
     ∷ low (r .cursor .address) ∷ high (r .cursor .address) ∷ directionNumber (r .cursor .direction)
-    -- 43: kept for later
+    -- 43: reserved
     ∷ 0 ∷ 0 ∷ 0 ∷ 0 ∷ 0 ∷ []
 
 -- Bytes in their layout: a saved controller that has nothing which is read as something else
@@ -141,15 +141,15 @@ savedBytes c =
 abbrev pub flagPlaces : List ℕ
 flagPlaces = 1 ∷ 4 ∷ 5 ∷ 6 ∷ 7 ∷ 8 ∷ 16 ∷ 30 ∷ 32 ∷ 33 ∷ 34 ∷ []
 
-abbrev pub laterPlaces : List ℕ
-laterPlaces = 43 ∷ 44 ∷ 45 ∷ 46 ∷ 47 ∷ []
+abbrev pub reservedPlaces : List ℕ
+reservedPlaces = 43 ∷ 44 ∷ 45 ∷ 46 ∷ 47 ∷ []
 
 pub record InLayout (s : List ℕ) : Type 0 where
   pub saved : isSaved s ≡ true
   pub flags : All (λ i. byteAt s i < 2) flagPlaces
   pub pending : code (commandOf (byteAt s 2)) ≡ byteAt s 2
   pub direction : byteAt s 42 < 4
-  pub later : All (λ i. byteAt s i ≡ 0) laterPlaces
+  pub reserved : All (λ i. byteAt s i ≡ 0) reservedPlaces
 
 -- Reading what was saved gives the same controller, what is saved is in its layout, and saving what was read gives the same bytes where they are
 pub record SavedForm : Type 0 where

@@ -1,5 +1,5 @@
 // Single calls. Each answers with the number of the refusal, 0 where there is none; or with NO_CONTROLLER, and then it changes
-// nothing. A data read answers with its value too, times 256. The size of a frame is refused by nothing.
+// nothing. A data read answers with its value too, times 256. The size of a frame has no refusal, and is 0 in place of NO_CONTROLLER.
 use crate::NO_CONTROLLER;
 use crate::saved::is_saved;
 use crate::saved::read;

@@ -1,7 +1,7 @@
 //! That what is measured side by side does the same.
 
 use crate::setups::{setups, Setup};
-use crate::{bytes, pictures, rows};
+use crate::{bytes, rows};
 use reference::refusals::FONT_SIZE;
 use support::random::Random;
 use support::setup;
@@ -31,9 +31,6 @@ pub fn check() -> bool {
     }
     for record in bytes::records() {
         count(bytes::agree(&record), record.name);
-    }
-    for picture in pictures::pictures() {
-        count(pictures::agree(&picture), picture.name());
     }
     println!("{} passed, {} failed", passed, failed);
     failed == 0

@@ -1,6 +1,6 @@
 //! Measures the library and the program. `bench/run` builds and runs this.
 //!
-//!     bench check                              whether the composers, the ways of writing bytes, and pictures agree
+//!     bench check                              whether the composers, and the ways of writing bytes, agree
 //!     bench measure                            one process' medians, for the table
 //!     bench table PANEL FOLDER OURS [OTHER]    the table: the programs in OURS, and in OTHER over another library, are run in turn
 //!
@@ -10,7 +10,6 @@ mod bytes;
 mod check;
 mod files;
 mod measure;
-mod pictures;
 mod program;
 mod rows;
 mod setups;

@@ -1,18 +1,17 @@
 //! One process' share of the times: the medians of its rounds, a line for each row of the table that is a time.
 
 use crate::timing::median;
-use crate::{bytes, pictures, rows, setups};
+use crate::{bytes, rows, setups};
 
 const ROUNDS: u32 = 80;
 
-/// Prints a line for each set-up in frames, for each in bands, for each record and for each picture: our time, the slower composer's (or
-/// nothing), and that of fill, copy or rows. The rounds go through all of them in turn, so that what disturbs the machine disturbs all alike.
+/// Prints a line for each set-up in frames, for each in bands, and for each record: our time, the slower composer's (or nothing), and fill's
+/// or copy's. The rounds go through all of them in turn, so that what disturbs the machine disturbs all alike.
 pub fn print() {
-    let (setups, records, mut pictures) = (setups::setups(), bytes::records(), pictures::pictures());
+    let (setups, records) = (setups::setups(), bytes::records());
     let mut of_frames = vec![Samples::default(); setups.len()];
     let mut of_bands = of_frames.clone();
     let mut of_bytes = vec![Samples::default(); records.len()];
-    let mut of_pictures = vec![Samples::default(); pictures.len()];
     for round in 0..ROUNDS {
         for (index, setup) in setups.iter().enumerate() {
             let times = rows::measure(setup, round);
@@ -23,12 +22,8 @@ pub fn print() {
             let times = bytes::measure(record);
             samples.add(times.ours, f64::NAN, times.copy);
         }
-        for (samples, picture) in of_pictures.iter_mut().zip(&mut pictures) {
-            let times = pictures::measure(picture);
-            samples.add(times.ours, f64::NAN, times.base);
-        }
     }
-    for Samples { ours, slower, base } in [of_frames, of_bands, of_bytes, of_pictures].into_iter().flatten() {
+    for Samples { ours, slower, base } in [of_frames, of_bands, of_bytes].into_iter().flatten() {
         println!("{} {} {}", median(ours), median(slower), median(base));
     }
 }

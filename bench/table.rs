@@ -2,7 +2,6 @@
 
 use crate::bytes;
 use crate::files::{refreshes, writes};
-use crate::pictures::pictures;
 use crate::program::Program;
 use crate::setups::{setups, Setup};
 use crate::timing::median;
@@ -25,7 +24,7 @@ struct Line {
     other: Option<f64>,
     /// A composer of one dot at a time.
     slower: Option<f64>,
-    /// Filling, copying, `cat`, or the rows of a picture.
+    /// Filling, copying, or `cat`.
     base: Option<f64>,
     /// Ours on rows of the same width that aren't scrolled.
     unscrolled: Option<f64>,
@@ -36,7 +35,7 @@ pub fn print(panel: &str, folder: &str, ours: &str, other: Option<&str>) -> Resu
     let panel = Path::new(panel).canonicalize().map_err(|error| format!("{}: {}", panel, error))?;
     lines.extend(program(&Program { panel, folder: PathBuf::from(folder) })?);
     let with_other = other.is_some();
-    println!("| What | Unit | Ours |{} One dot at a time | Fill, copy, cat, rows | One dot / ours | Ours / fill, copy, cat, rows | Scrolled / not |",
+    println!("| What | Unit | Ours |{} One dot at a time | Fill, copy, cat | One dot / ours | Ours / fill, copy, cat | Scrolled / not |",
         if with_other { " Other | Ours / other |" } else { "" });
     println!("|---|---|---:|{}---:|---:|---:|---:|---:|", if with_other { "---:|---:|" } else { "" });
     for line in lines {
@@ -97,8 +96,7 @@ fn times(ours: &str, other: Option<&str>) -> Result<Vec<Line>, String> {
         setups.iter().map(move |setup| (format!("{}{}", setup.name, how), "ns a dot", setup.unscrolled.map(|place| first + place)))
     };
     let records = bytes::records().into_iter().map(|record| (record.name.to_string(), "ns a byte", None));
-    let pictures = pictures().into_iter().map(|picture| (picture.name().to_string(), picture.unit(), None));
-    let names = rows("", 0).chain(rows("; in bands", setups.len())).chain(records).chain(pictures);
+    let names = rows("", 0).chain(rows("; in bands", setups.len())).chain(records);
     Ok(names
         .enumerate()
         .map(|(line, (what, unit, unscrolled))| Line {

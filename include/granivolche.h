@@ -57,10 +57,7 @@ enum {
     GRANIVOLCHE_REFUSED_ROW_NUMBER = 16,      /* the row number is not below [L/F] */
     GRANIVOLCHE_REFUSED_BUFFER_SIZE = 17,     /* the buffer is not exactly as long as the row is wide */
     GRANIVOLCHE_REFUSED_SMOOTH_SCROLL = 18,   /* HDOT SCR not 0, and grey, HDOT SCR at least [FX], or [C/R] 1 */
-    GRANIVOLCHE_REFUSED_DISPLAY_OFF = 19,     /* SLEEP IN with the display off; the pending command ends */
-    GRANIVOLCHE_REFUSED_NO_PICTURE = 20,      /* a text that is not P4 or lacks data, or a zero size */
-    GRANIVOLCHE_REFUSED_PICTURE_FIT = 21      /* a width not divisible by 8, a pitch below width / 8, a byte outside memory, or
-                                               * an output buffer that is not exactly as long as the picture */
+    GRANIVOLCHE_REFUSED_DISPLAY_OFF = 19      /* SLEEP IN with the display off; the pending command ends */
 };
 
 /* Makes any GRANIVOLCHE_CONTROLLER_SIZE bytes the controller after reset. The answer is 0, or GRANIVOLCHE_NO_CONTROLLER
@@ -99,32 +96,6 @@ uint32_t granivolche_row(const uint8_t *controller, size_t controller_length, co
 /* The size of a frame: its width in dots + 65536 x its rows, also where its rows are refused. 0 where the bytes are no
  * saved controller; a frame has at least one row. */
 uint32_t granivolche_frame_size(const uint8_t *controller, size_t controller_length);
-
-/* How many bytes the picture of a frame has, also where the frame is refused. 0 where the bytes are no saved controller. */
-uint64_t granivolche_frame_picture_size(const uint8_t *controller, size_t controller_length);
-
-/* Writes a frame as a Netpbm P5 picture (PGM): out gets all of it, and has to be exactly as long. The maximum value is 1, 3 or
- * 15, and a dot is the maximum minus its value, so that a set dot is dark. It answers 0, 1, 8 to 15, 18, 21 or
- * GRANIVOLCHE_NO_CONTROLLER, and where that is not 0 it leaves out as it is. */
-uint32_t granivolche_frame_picture(const uint8_t *controller, size_t controller_length, const uint8_t *memory,
-                                   size_t memory_length, const uint8_t *font, size_t font_length, uint32_t frame,
-                                   uint8_t *out, size_t out_length);
-
-/* How many bytes a P4 picture of a size has, whatever the size. */
-uint64_t granivolche_memory_picture_size(uint32_t width, uint32_t height);
-
-/* Writes a rectangle of memory as a Netpbm P4 picture (PBM), a set bit as a set bit: row q is the width / 8 bytes from
- * address + q x pitch on. out has to be exactly as long as the picture. It answers 0, 1, 20 or 21, and where that is not 0 it
- * leaves out as it is. */
-uint32_t granivolche_memory_picture(const uint8_t *memory, size_t memory_length, uint32_t address, uint32_t pitch,
-                                    uint32_t width, uint32_t height, uint8_t *out, size_t out_length);
-
-/* Reads a Netpbm P4 picture into memory: its row q goes to the bytes from address + q x pitch on, and other bytes stand. Bytes
- * that follow the picture's data are ignored. It answers 0, 1, 20, 21 or GRANIVOLCHE_NO_CONTROLLER, and where that is not 0 it
- * leaves memory as it is. Registers and pending command stand; the controller is written back as by every call. What
- * granivolche_memory_picture wrote, read back to the same place, leaves memory as it was. */
-uint32_t granivolche_load_picture(uint8_t *controller, size_t controller_length, uint8_t *memory, size_t memory_length,
-                                  const uint8_t *text, size_t text_length, uint32_t address, uint32_t pitch);
 
 #ifdef __cplusplus
 }

@@ -8,7 +8,7 @@ import re
 import sys
 
 TYPES = {"&mut [u8]": ("uint8_t *{0}", "size_t {0}_length"), "&[u8]": ("const uint8_t *{0}", "size_t {0}_length"),
-         "u8": ("uint8_t {0}",), "u32": ("uint32_t {0}",), "u64": ("uint64_t {0}",)}
+         "u8": ("uint8_t {0}",), "u32": ("uint32_t {0}",)}
 
 
 def prototype(name, parameters, answer):

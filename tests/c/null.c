@@ -7,19 +7,16 @@
 #define MEMORY memory, sizeof memory
 #define FONT font, sizeof font
 #define DOTS dots, sizeof dots
-#define FRAME frame, sizeof frame
-#define SCREEN screen, sizeof screen
 #define NONE NULL, 0
 #define CHECK(ANSWER, CALL) check(ANSWER, CALL, #CALL)
 
 static uint8_t controller[GRANIVOLCHE_CONTROLLER_SIZE], memory[GRANIVOLCHE_MEMORY_SIZE], font[GRANIVOLCHE_FONT_SIZE], dots[8];
-static uint8_t frame[17], screen[8]; /* pictures of 8 x 1: P5 and P4 */
 static int failed;
 
-static void check(uint64_t wanted, uint64_t answer, const char *call) {
+static void check(uint32_t wanted, uint32_t answer, const char *call) {
     if (answer == wanted)
         return;
-    printf("%s answers %lu, not %lu\n", call, (unsigned long)answer, (unsigned long)wanted);
+    printf("%s answers %u, not %u\n", call, (unsigned)answer, (unsigned)wanted);
     failed = 1;
 }
 
@@ -30,11 +27,6 @@ int main(void) {
     CHECK(GRANIVOLCHE_ACCEPTED, granivolche_reset(CONTROLLER));
     CHECK(0, granivolche_send(CONTROLLER, MEMORY, system_set, 9, answers, 9));
     CHECK(GRANIVOLCHE_ACCEPTED, granivolche_row(CONTROLLER, MEMORY, FONT, 0, 0, DOTS));
-    CHECK(sizeof frame, granivolche_frame_picture_size(CONTROLLER));
-    CHECK(GRANIVOLCHE_ACCEPTED, granivolche_frame_picture(CONTROLLER, MEMORY, FONT, 0, FRAME));
-    CHECK(sizeof screen, granivolche_memory_picture_size(8, 1));
-    CHECK(GRANIVOLCHE_ACCEPTED, granivolche_memory_picture(MEMORY, 0, 1, 8, 1, SCREEN));
-    CHECK(GRANIVOLCHE_ACCEPTED, granivolche_load_picture(CONTROLLER, MEMORY, SCREEN, 0, 1));
     memcpy(before, controller, sizeof controller);
 
     CHECK(GRANIVOLCHE_NO_CONTROLLER, granivolche_reset(NONE));
@@ -46,11 +38,6 @@ int main(void) {
     CHECK(GRANIVOLCHE_NO_CONTROLLER, granivolche_row(NONE, MEMORY, FONT, 0, 0, DOTS));
     CHECK(GRANIVOLCHE_NO_CONTROLLER, granivolche_row(NONE, NONE, NONE, 0, 0, NONE));
     CHECK(0, granivolche_frame_size(NONE));
-    CHECK(0, granivolche_frame_picture_size(NONE));
-    CHECK(GRANIVOLCHE_NO_CONTROLLER, granivolche_frame_picture(NONE, MEMORY, FONT, 0, FRAME));
-    CHECK(GRANIVOLCHE_NO_CONTROLLER, granivolche_frame_picture(NONE, NONE, NONE, 0, NONE));
-    CHECK(GRANIVOLCHE_NO_CONTROLLER, granivolche_load_picture(NONE, MEMORY, SCREEN, 0, 1));
-    CHECK(GRANIVOLCHE_NO_CONTROLLER, granivolche_load_picture(NONE, NONE, NONE, 0, 1));
     CHECK(GRANIVOLCHE_NOTHING_SENT, granivolche_send(NONE, MEMORY, system_set, 9, answers, 9));
     CHECK(GRANIVOLCHE_NOTHING_SENT, granivolche_send(NONE, NONE, NONE, NONE));
     CHECK(GRANIVOLCHE_NOTHING_SENT, granivolche_send(CONTROLLER, MEMORY, NONE, NONE));
@@ -63,16 +50,6 @@ int main(void) {
     CHECK(GRANIVOLCHE_REFUSED_MEMORY_SIZE, granivolche_row(CONTROLLER, NONE, NONE, 0, 0, NONE));
     CHECK(GRANIVOLCHE_REFUSED_FONT_SIZE, granivolche_row(CONTROLLER, MEMORY, NONE, 0, 0, DOTS));
     CHECK(GRANIVOLCHE_REFUSED_BUFFER_SIZE, granivolche_row(CONTROLLER, MEMORY, FONT, 0, 0, NONE));
-    CHECK(GRANIVOLCHE_REFUSED_MEMORY_SIZE, granivolche_frame_picture(CONTROLLER, NONE, FONT, 0, FRAME));
-    CHECK(GRANIVOLCHE_REFUSED_MEMORY_SIZE, granivolche_frame_picture(CONTROLLER, NONE, NONE, 0, NONE));
-    CHECK(GRANIVOLCHE_REFUSED_FONT_SIZE, granivolche_frame_picture(CONTROLLER, MEMORY, NONE, 0, FRAME));
-    CHECK(GRANIVOLCHE_REFUSED_PICTURE_FIT, granivolche_frame_picture(CONTROLLER, MEMORY, FONT, 0, NONE));
-    CHECK(GRANIVOLCHE_REFUSED_MEMORY_SIZE, granivolche_memory_picture(NONE, 0, 1, 8, 1, SCREEN));
-    CHECK(GRANIVOLCHE_REFUSED_MEMORY_SIZE, granivolche_memory_picture(NONE, 0, 1, 8, 1, NONE));
-    CHECK(GRANIVOLCHE_REFUSED_PICTURE_FIT, granivolche_memory_picture(MEMORY, 0, 1, 8, 1, NONE));
-    CHECK(GRANIVOLCHE_REFUSED_MEMORY_SIZE, granivolche_load_picture(CONTROLLER, NONE, SCREEN, 0, 1));
-    CHECK(GRANIVOLCHE_REFUSED_MEMORY_SIZE, granivolche_load_picture(CONTROLLER, NONE, NONE, 0, 1));
-    CHECK(GRANIVOLCHE_REFUSED_NO_PICTURE, granivolche_load_picture(CONTROLLER, MEMORY, NONE, 0, 1));
     CHECK(0, (uint32_t)memcmp(before, controller, sizeof controller));
 
     /* Without memory a command byte is taken, and each byte behind it gets 1. */

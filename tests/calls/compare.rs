@@ -11,7 +11,7 @@ use std::path::{Path, PathBuf};
 use support::counts::Counts;
 
 /// How many lists the folder of vectors has.
-const VECTORS: usize = 60;
+const VECTORS: usize = 30;
 
 /// A line for each answer.
 pub fn answers(text: &str, functions: &'static Functions, lend: Lend) -> Result<String, String> {

@@ -9,10 +9,9 @@ use host::handed_in::{self, Row, WRONG_FONTS, WRONG_MEMORIES};
 use host::saved;
 use reference::commands::*;
 use reference::refusals::{FONT_SIZE, MEMORY_SIZE};
+use support::limits;
 use support::random::Random;
 use support::setup::Setup;
-use support::texts::{damage, Text};
-use support::{limits, rectangles};
 
 /// The text of a list of 50 to 300 lines and some more, as what was begun is ended.
 pub fn generate(seed: u64) -> String {
@@ -38,7 +37,6 @@ pub fn generate(seed: u64) -> String {
             _ => list.add(Line::Reset),
         }
         list.rows();
-        list.picture();
         list.add(Line::Registers);
         list.add(Line::Sum);
     }
@@ -116,39 +114,6 @@ impl List {
         }
     }
 
-    /// The frame, a rectangle of memory, or a text that is loaded.
-    fn picture(&mut self) {
-        match self.random.below(4) {
-            0 => self.frame_picture(),
-            1 => {
-                let rectangle = rectangles::rectangle(&mut self.random);
-                let size = (REFERENCE.memory_picture_size)(rectangle.width, rectangle.height);
-                let length = rectangles::buffer(size, &mut self.random);
-                self.add(Line::MemoryPicture { rectangle, length });
-            }
-            _ => self.load_picture(),
-        }
-    }
-
-    fn frame_picture(&mut self) {
-        let size = (REFERENCE.frame_picture_size)(self.runner.controller());
-        let (frame, length) = (self.random.below(100), rectangles::buffer(size, &mut self.random));
-        self.add(Line::FramePicture { frame, length });
-    }
-
-    fn load_picture(&mut self) {
-        let r = rectangles::rectangle(&mut self.random);
-        // Not more than there are data for.
-        let (width, height) = (r.width.clamp(1, 100), r.height.clamp(1, 300));
-        let mut text = Text::choose(width, height, &mut self.random).bytes();
-        match self.random.below(40) {
-            0 => text.clear(),
-            1..=10 => damage(&mut text, &mut self.random),
-            _ => {}
-        }
-        self.add(Line::LoadPicture { address: r.address, pitch: r.pitch, text });
-    }
-
     /// Fields outside their layout, and now and then a flag above 1.
     fn hand_in_fields(&mut self) {
         let mut controller = self.runner.controller().to_vec();
@@ -220,7 +185,6 @@ impl List {
             let size = self.random.pick(&WRONG_FONTS[1..]);
             self.font(size);
             self.rows();
-            self.frame_picture();
             return self.font(FONT_SIZE);
         }
         let size = self.random.pick(&WRONG_MEMORIES);
@@ -228,7 +192,6 @@ impl List {
         self.traffic();
         self.memory_access();
         self.rows();
-        (0..3).for_each(|_| self.picture());
         self.add(Line::Sum);
         self.add(Line::Memory(MEMORY_SIZE));
         for address in [0x0000, 0x7F00] {

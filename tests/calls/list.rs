@@ -1,28 +1,22 @@
 //! A list of calls on one controller, a line each. Bytes and addresses are hex, all other numbers decimal. A line that starts
 //! with `#` says nothing.
 //!
-//!     memory N                       lends cleared memory of N bytes from here on; at first 32,768
-//!     store ADDRESS HEX              puts bytes into the lent memory
-//!     font HEX                       lends this font from here on; at first one of 0 bytes
-//!     set NAME=VALUE ..              hands in the controller with these fields, the others as they were
-//!     reset                          a reset
-//!     command BB                     a command write
-//!     data BB                        a data write
-//!     read                           a data read
-//!     row ROW FRAME LENGTH           a row into a buffer of LENGTH bytes
-//!     frame-picture FRAME LENGTH     a frame as P5, into such a buffer
-//!     memory-picture ADDRESS PITCH WIDTH HEIGHT LENGTH
-//!                                    a rectangle of memory as P4, into such a buffer
-//!     load-picture ADDRESS PITCH HEX
-//!                                    a P4 text into memory; `-` is an empty one
-//!     registers                      every field
-//!     sum                            the FNV-1a sum of the lent memory, 32 bits
+//!     memory N               lends cleared memory of N bytes from here on; at first 32,768
+//!     store ADDRESS HEX      puts bytes into the lent memory
+//!     font HEX               lends this font from here on; at first one of 0 bytes
+//!     set NAME=VALUE ..      hands in the controller with these fields, the others as they were
+//!     reset                  a reset
+//!     command BB             a command write
+//!     data BB                a data write
+//!     read                   a data read
+//!     row ROW FRAME LENGTH   a row into a buffer of LENGTH bytes
+//!     registers              every field
+//!     sum                    the FNV-1a sum of the lent memory, 32 bits
 //!
 //! The names are those of `fields.rs`; `pending` is the first code of its row of the command table, 0 for none. What each
 //! line answers is said in `runner.rs`.
 
 use crate::fields::Field;
-use reference::pictures::Rectangle;
 use std::fmt::{self, Display};
 
 pub enum Line {
@@ -35,9 +29,6 @@ pub enum Line {
     Data(u8),
     Read,
     Row { row: u32, frame: u32, length: usize },
-    FramePicture { frame: u32, length: usize },
-    MemoryPicture { rectangle: Rectangle, length: usize },
-    LoadPicture { address: u32, pitch: u32, text: Vec<u8> },
     Registers,
     Sum,
 }
@@ -62,17 +53,6 @@ fn parse_line(line: &str) -> Option<Line> {
         ["row", row, frame, length] => {
             Line::Row { row: row.parse().ok()?, frame: frame.parse().ok()?, length: length.parse().ok()? }
         }
-        ["frame-picture", frame, length] => Line::FramePicture { frame: frame.parse().ok()?, length: length.parse().ok()? },
-        ["memory-picture", address, pitch, width, height, length] => {
-            let address = u32::from_str_radix(address, 16).ok()?;
-            let (pitch, width, height) = (pitch.parse().ok()?, width.parse().ok()?, height.parse().ok()?);
-            Line::MemoryPicture { rectangle: Rectangle { address, pitch, width, height }, length: length.parse().ok()? }
-        }
-        ["load-picture", address, pitch, text] => Line::LoadPicture {
-            address: u32::from_str_radix(address, 16).ok()?,
-            pitch: pitch.parse().ok()?,
-            text: if text == "-" { vec![] } else { hex(text)? },
-        },
         ["registers"] => Line::Registers,
         ["sum"] => Line::Sum,
         _ => return None,
@@ -107,19 +87,12 @@ impl Display for Line {
             Line::Data(byte) => write!(f, "data {:02X}", byte),
             Line::Read => write!(f, "read"),
             Line::Row { row, frame, length } => write!(f, "row {} {} {}", row, frame, length),
-            Line::FramePicture { frame, length } => write!(f, "frame-picture {} {}", frame, length),
-            Line::MemoryPicture { rectangle: Rectangle { address, pitch, width, height }, length } => {
-                write!(f, "memory-picture {:04X} {} {} {} {}", address, pitch, width, height, length)
-            }
-            Line::LoadPicture { address, pitch, text } => {
-                write!(f, "load-picture {:04X} {} {}", address, pitch, if text.is_empty() { "-".to_string() } else { digits(text) })
-            }
             Line::Registers => write!(f, "registers"),
             Line::Sum => write!(f, "sum"),
         }
     }
 }
 
-pub fn digits(bytes: &[u8]) -> String {
+fn digits(bytes: &[u8]) -> String {
     bytes.iter().map(|byte| format!("{:02X}", byte)).collect()
 }

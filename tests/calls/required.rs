@@ -6,7 +6,7 @@ use reference::commands::*;
 use support::counts::Event;
 
 pub fn required() -> Vec<Event> {
-    let plain = ["reset of another controller", "row accepted, asleep", "row accepted, display off", "load-picture of an empty text"];
+    let plain = ["reset of another controller", "row accepted, asleep", "row accepted, display off"];
     let mut all: Vec<Event> = plain.iter().map(|template| (*template, vec![])).collect();
     let mut each = |template: &'static str, numbers: &mut dyn Iterator<Item = u8>| {
         all.extend(numbers.map(|number| (template, vec![number])));
@@ -15,13 +15,7 @@ pub fn required() -> Vec<Event> {
     each("data answers #", &mut [0, 1, 3, 4, 7].into_iter());
     each("read answers #", &mut [0, 1, 6, 7].into_iter());
     each("row answers #", &mut [0, 1].into_iter().chain(8..=18));
-    each("frame-picture answers #", &mut [0, 1, 18, 21].into_iter().chain(8..=15));
-    each("memory-picture answers #", &mut [0, 1, 20, 21].into_iter());
-    each("load-picture answers #", &mut [0, 1, 20, 21].into_iter());
-    for template in [
-        "data, wrong memory #", "read, wrong memory #", "row, wrong memory #", "frame-picture, wrong memory #",
-        "memory-picture, wrong memory #", "load-picture, wrong memory #",
-    ] {
+    for template in ["data, wrong memory #", "read, wrong memory #", "row, wrong memory #"] {
         each(template, &mut (0..5));
     }
     each("row, wrong font #", &mut (0..4));
@@ -29,8 +23,6 @@ pub fn required() -> Vec<Event> {
     each("byte written, direction #", &mut (0..4));
     each("byte read that isn't 0, direction #", &mut (0..4));
     each("lit row, grey code #", &mut (0..=2));
-    each("lit frame-picture, grey code #", &mut (0..=2));
-    each("dark frame-picture, asleep #", &mut (0..=1));
     each("lit row, scrolled by #", &mut (0..=7));
     each("row shown, field at # outside its layout", &mut LIMITED.iter().map(|field| field.0 as u8));
     // D above 1 is read as 0, so the display is off.

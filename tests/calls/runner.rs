@@ -1,7 +1,7 @@
 //! Carries out the lines of a list on one controller, over the library or over the reference.
 
 use crate::fields::FIELDS;
-use crate::list::{digits, Line};
+use crate::list::Line;
 use host::functions::Functions;
 use host::guarded::{Guarded, Lend};
 use host::saved;
@@ -15,7 +15,7 @@ pub struct Runner {
     font: Guarded,
 }
 
-/// What a buffer holds before a call: what no dot is.
+/// What no dot is.
 const NO_DOT: u8 = 0xC3;
 
 impl Runner {
@@ -38,12 +38,11 @@ impl Runner {
         self.font.content()
     }
 
-    /// Carries out a line. Its answer is `NUMBER` for reset, command, data and load-picture; `NUMBER VALUE` for read, the value
-    /// in hex; `NUMBER` for row and, if that is 0, the dots, a hex digit each; `NUMBER` for the other pictures and, if that is 0,
-    /// the output in hex; `NAME=VALUE ..` for registers; eight hex digits for sum; and nothing for the others. An error is a line
-    /// that cannot be carried out, or a call that touched what it may not.
+    /// Carries out a line. Its answer is `NUMBER` for reset, command and data; `NUMBER VALUE` for read, the value in hex;
+    /// `NUMBER` for row and, if that is 0, the dots, a hex digit each; `NAME=VALUE ..` for registers; eight hex digits for sum;
+    /// and nothing for the others. An error is a line that cannot be carried out, or a call that touched what it may not.
     pub fn carry_out(&mut self, line: &Line) -> Result<Option<String>, String> {
-        let Functions { reset, command_write, data_write, row, frame_picture, memory_picture, .. } = *self.functions;
+        let Functions { reset, command_write, data_write, .. } = *self.functions;
         let answer = match line {
             Line::Memory(size) => {
                 self.memory = (self.lend)(&vec![0; *size]);
@@ -66,19 +65,7 @@ impl Runner {
             Line::Command(byte) => Some(command_write(self.controller.lent(), *byte).to_string()),
             Line::Data(byte) => Some(data_write(self.controller.lent(), self.memory.lent(), *byte).to_string()),
             Line::Read => Some(self.read()?),
-            Line::Row { row: number, frame, length } => {
-                let one_digit = |dots: &[u8]| dots.iter().map(|dot| format!("{:X}", dot)).collect();
-                let call = |dots: &mut [u8]| row(self.controller(), self.memory(), self.font(), *frame, *number, dots);
-                Some(self.filled(*length, call, one_digit)?)
-            }
-            Line::FramePicture { frame, length } => {
-                let call = |output: &mut [u8]| frame_picture(self.controller(), self.memory(), self.font(), *frame, output);
-                Some(self.filled(*length, call, digits)?)
-            }
-            Line::MemoryPicture { rectangle, length } => {
-                Some(self.filled(*length, |output| memory_picture(self.memory(), rectangle, output), digits)?)
-            }
-            Line::LoadPicture { address, pitch, text } => Some(self.load_picture(text, *address, *pitch)?),
+            Line::Row { row, frame, length } => Some(self.row(*row, *frame, *length)?),
             Line::Registers => {
                 let fields = FIELDS.iter().map(|field| format!("{}={}", field.name, field.of(self.controller())));
                 Some(fields.collect::<Vec<String>>().join(" "))
@@ -98,32 +85,21 @@ impl Runner {
         Ok(format!("{} {:02X}", answer % 256, answer / 256))
     }
 
-    /// What a call leaves in a buffer, which alone it may write.
-    fn filled(&self, length: usize, call: impl Fn(&mut [u8]) -> u32, written: impl Fn(&[u8]) -> String) -> Result<String, String> {
+    fn row(&self, row: u32, frame: u32, length: usize) -> Result<String, String> {
         let before = [&self.controller, &self.memory, &self.font].map(|lent| lent.content().to_vec());
         let untouched = vec![NO_DOT; length];
-        let mut buffer = (self.lend)(&untouched);
-        let number = call(buffer.lent());
-        buffer.guards_stand("buffer")?;
+        let mut dots = (self.lend)(&untouched);
+        let number = (self.functions.row)(self.controller(), self.memory(), self.font(), frame, row, dots.lent());
+        dots.guards_stand("dots")?;
         stands("controller", &self.controller, &before[0])?;
         stands("memory", &self.memory, &before[1])?;
         stands("font", &self.font, &before[2])?;
         if number != 0 {
-            stands("buffer of a refused call", &buffer, &untouched)?;
+            stands("dots of a refused row", &dots, &untouched)?;
             return Ok(number.to_string());
         }
-        Ok(format!("0 {}", written(buffer.content())))
-    }
-
-    fn load_picture(&mut self, text: &[u8], address: u32, pitch: u32) -> Result<String, String> {
-        let lent = (self.lend)(text);
-        let before = self.memory().to_vec();
-        let number = (self.functions.load_picture)(self.controller.lent(), self.memory.lent(), lent.content(), address, pitch);
-        lent.difference("text", text)?;
-        if number != 0 {
-            stands("memory of a refused picture", &self.memory, &before)?;
-        }
-        Ok(number.to_string())
+        let digits: String = dots.content().iter().map(|dot| format!("{:X}", dot)).collect();
+        Ok(format!("0 {}", digits))
     }
 }
 

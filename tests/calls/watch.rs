@@ -36,30 +36,12 @@ pub fn line(before: &Before, line: &Line, answer: &str, counts: &mut Counts) {
         Line::Data(_) => data(before, number, counts),
         Line::Read => read(before, number, answer, counts),
         Line::Row { .. } => row(before, number, answer, counts),
-        Line::FramePicture { .. } => frame_picture(before, number, answer, counts),
-        Line::MemoryPicture { .. } => {
-            counts.hit("memory-picture answers #", &[number]);
-            wrong_memory(number, "memory-picture, wrong memory #", before, counts);
-        }
-        Line::LoadPicture { text, .. } => {
-            counts.hit("load-picture answers #", &[number]);
-            wrong_memory(number, "load-picture, wrong memory #", before, counts);
-            if text.is_empty() {
-                counts.hit("load-picture of an empty text", &[]);
-            }
-        }
         _ => {}
     }
 }
 
 fn place_of(sizes: &[usize], size: usize) -> u8 {
     sizes.iter().position(|wrong| *wrong == size).expect("one of the wrong sizes") as u8
-}
-
-fn wrong_memory(number: u8, template: &'static str, before: &Before, counts: &mut Counts) {
-    if number == 1 {
-        counts.hit(template, &[place_of(&WRONG_MEMORIES, before.memory)]);
-    }
 }
 
 fn data(before: &Before, number: u8, counts: &mut Counts) {
@@ -104,23 +86,5 @@ fn row(before: &Before, number: u8, answer: &str, counts: &mut Counts) {
             }
         }
         _ => {}
-    }
-}
-
-fn frame_picture(before: &Before, number: u8, answer: &str, counts: &mut Counts) {
-    counts.hit("frame-picture answers #", &[number]);
-    wrong_memory(number, "frame-picture, wrong memory #", before, counts);
-    let registers = before.controller.registers.in_layout();
-    if number != 0 {
-        return;
-    }
-    let (width, rows) = before.controller.frame_size();
-    let (_, dots) = answer.split_at(answer.len() - 2 * (width * rows) as usize);
-    let maximum = format!("{:02X}", before.controller.maximum());
-    if dots.as_bytes().chunks(2).any(|digits| digits != maximum.as_bytes()) {
-        counts.hit("lit frame-picture, grey code #", &[registers.grey]);
-    }
-    if registers.asleep || !registers.d {
-        counts.hit("dark frame-picture, asleep #", &[u8::from(registers.asleep)]);
     }
 }

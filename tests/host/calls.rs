@@ -1,8 +1,6 @@
 //! The library's functions, with a slice for each pointer and its length. An answer's low byte is the number of a refusal, 0
 //! for none and NO_CONTROLLER where the bytes are no saved controller.
 
-use reference::pictures::Rectangle;
-
 pub const NO_CONTROLLER: u32 = 255;
 
 /// What `send` answers where it does nothing.
@@ -38,39 +36,6 @@ mod c {
             dots_length: usize,
         ) -> u32;
         pub fn granivolche_frame_size(controller: *const u8, length: usize) -> u32;
-        pub fn granivolche_frame_picture_size(controller: *const u8, length: usize) -> u64;
-        pub fn granivolche_frame_picture(
-            controller: *const u8,
-            length: usize,
-            memory: *const u8,
-            memory_length: usize,
-            font: *const u8,
-            font_length: usize,
-            frame: u32,
-            output: *mut u8,
-            output_length: usize,
-        ) -> u32;
-        pub fn granivolche_memory_picture_size(width: u32, height: u32) -> u64;
-        pub fn granivolche_memory_picture(
-            memory: *const u8,
-            memory_length: usize,
-            address: u32,
-            pitch: u32,
-            width: u32,
-            height: u32,
-            output: *mut u8,
-            output_length: usize,
-        ) -> u32;
-        pub fn granivolche_load_picture(
-            controller: *mut u8,
-            length: usize,
-            memory: *mut u8,
-            memory_length: usize,
-            text: *const u8,
-            text_length: usize,
-            address: u32,
-            pitch: u32,
-        ) -> u32;
     }
 }
 
@@ -129,61 +94,4 @@ pub fn row(controller: &[u8], memory: &[u8], font: &[u8], frame: u32, row: u32, 
 /// The width and 65,536 times the rows; 0 where the bytes are no saved controller.
 pub fn frame_size(controller: &[u8]) -> u32 {
     unsafe { c::granivolche_frame_size(controller.as_ptr(), controller.len()) }
-}
-
-/// The length of a frame's picture; 0 where the bytes are no saved controller.
-pub fn frame_picture_size(controller: &[u8]) -> u64 {
-    unsafe { c::granivolche_frame_picture_size(controller.as_ptr(), controller.len()) }
-}
-
-pub fn frame_picture(controller: &[u8], memory: &[u8], font: &[u8], frame: u32, output: &mut [u8]) -> u32 {
-    unsafe {
-        c::granivolche_frame_picture(
-            controller.as_ptr(),
-            controller.len(),
-            memory.as_ptr(),
-            memory.len(),
-            font.as_ptr(),
-            font.len(),
-            frame,
-            output.as_mut_ptr(),
-            output.len(),
-        )
-    }
-}
-
-/// The length of the picture of a rectangle.
-pub fn memory_picture_size(width: u32, height: u32) -> u64 {
-    unsafe { c::granivolche_memory_picture_size(width, height) }
-}
-
-pub fn memory_picture(memory: &[u8], r: &Rectangle, output: &mut [u8]) -> u32 {
-    let Rectangle { address, pitch, width, height } = *r;
-    unsafe {
-        c::granivolche_memory_picture(
-            memory.as_ptr(),
-            memory.len(),
-            address,
-            pitch,
-            width,
-            height,
-            output.as_mut_ptr(),
-            output.len(),
-        )
-    }
-}
-
-pub fn load_picture(controller: &mut [u8], memory: &mut [u8], text: &[u8], address: u32, pitch: u32) -> u32 {
-    unsafe {
-        c::granivolche_load_picture(
-            controller.as_mut_ptr(),
-            controller.len(),
-            memory.as_mut_ptr(),
-            memory.len(),
-            text.as_ptr(),
-            text.len(),
-            address,
-            pitch,
-        )
-    }
 }

@@ -3,7 +3,6 @@
 use crate::calls::{NOTHING_SENT, NO_CONTROLLER};
 use crate::saved;
 use reference::model::Controller;
-use reference::pictures::{self, Rectangle};
 
 fn number(answer: Result<(), u8>) -> u32 {
     answer.err().map_or(0, u32::from)
@@ -64,25 +63,4 @@ pub fn frame_size(controller: &[u8]) -> u32 {
         let (width, rows) = controller.frame_size();
         width + 65_536 * rows
     })
-}
-
-pub fn frame_picture_size(controller: &[u8]) -> u64 {
-    saved::read(controller).map_or(0, |controller| controller.frame_picture_size())
-}
-
-pub fn frame_picture(controller: &[u8], memory: &[u8], font: &[u8], frame: u32, output: &mut [u8]) -> u32 {
-    saved::read(controller).map_or(NO_CONTROLLER, |controller| number(controller.frame_picture(memory, font, frame, output)))
-}
-
-pub fn memory_picture_size(width: u32, height: u32) -> u64 {
-    pictures::memory_picture_size(width, height)
-}
-
-pub fn memory_picture(memory: &[u8], r: &Rectangle, output: &mut [u8]) -> u32 {
-    number(pictures::memory_picture(memory, r, output))
-}
-
-pub fn load_picture(controller: &mut [u8], memory: &mut [u8], text: &[u8], address: u32, pitch: u32) -> u32 {
-    // Nothing of the controller takes part, but its bytes must be one.
-    change(controller, NO_CONTROLLER, |_| number(pictures::load_picture(memory, text, address, pitch)))
 }

@@ -2,7 +2,6 @@
 //! of a saved controller, and what is lent to a call.
 
 pub mod calls;
-pub mod command;
 pub mod expected;
 pub mod functions;
 pub mod guarded;

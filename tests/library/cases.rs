@@ -1,10 +1,8 @@
 //! A case from a seed: a controller, memory and font that a caller hands in, and calls on them.
 
-use crate::pictures;
 use host::handed_in::{self, WRONG_FONTS, WRONG_MEMORIES};
 use host::saved;
 use reference::commands::{parameter_count, CODES, MWRITE, SLEEP_IN, SYSTEM_SET};
-use reference::pictures::Rectangle;
 use reference::refusals::{FONT_SIZE, MEMORY_SIZE};
 use std::fmt;
 use support::limits;
@@ -20,12 +18,6 @@ pub enum Call {
     Send { bytes: Vec<u8>, answers: usize },
     Row(handed_in::Row),
     FrameSize,
-    FramePictureSize,
-    /// The frame's number, and the length of the output.
-    FramePicture { frame: u32, length: usize },
-    MemoryPictureSize { width: u32, height: u32 },
-    MemoryPicture { rectangle: Rectangle, length: usize },
-    LoadPicture { text: Vec<u8>, address: u32, pitch: u32 },
 }
 
 impl Call {
@@ -39,11 +31,6 @@ impl Call {
             Call::Send { .. } => 5,
             Call::Row(_) => 6,
             Call::FrameSize => 7,
-            Call::FramePictureSize => 8,
-            Call::FramePicture { .. } => 9,
-            Call::MemoryPictureSize { .. } => 10,
-            Call::MemoryPicture { .. } => 11,
-            Call::LoadPicture { .. } => 12,
         }
     }
 }
@@ -58,13 +45,6 @@ impl fmt::Display for Call {
             Call::Send { bytes, answers } => write!(f, "send of {:02X?} with {} answers", bytes, answers),
             Call::Row(row) => write!(f, "row {} of frame {} into {} bytes", row.row, row.frame, row.length),
             Call::FrameSize => write!(f, "frame size"),
-            Call::FramePictureSize => write!(f, "size of the frame's picture"),
-            Call::FramePicture { frame, length } => write!(f, "picture of frame {} into {} bytes", frame, length),
-            Call::MemoryPictureSize { width, height } => write!(f, "size of a picture of {} x {}", width, height),
-            Call::MemoryPicture { rectangle, length } => write!(f, "picture of {:?} into {} bytes", rectangle, length),
-            Call::LoadPicture { text, address, pitch } => {
-                write!(f, "loading {:?} at {} with pitch {}", String::from_utf8_lossy(text), address, pitch)
-            }
         }
     }
 }
@@ -93,7 +73,7 @@ pub fn generate(seed: u64) -> Case {
     if rows || random.chance(80) {
         handed_in::fields(&mut controller, &mut random);
     }
-    if rows && random.chance(30) {
+    if rows && random.chance(20) {
         handed_in::flag(&mut controller, &mut random);
     }
     let mut calls = vec![];
@@ -117,13 +97,6 @@ pub fn generate(seed: u64) -> Case {
             _ if rows => Call::Row(handed_in::row(&controller, &mut random)),
             _ => call(&controller, &mut random),
         });
-    }
-    for _ in 0..random.below(4) {
-        let frame = random.chance(if rows { 60 } else { 10 });
-        calls.push(if frame { pictures::of_frame(&controller, &mut random) } else { pictures::of_memory(&mut random) });
-    }
-    if random.chance(20) {
-        machine.memory = random.bytes(MEMORY_SIZE as u32);
     }
     Case {
         calls,

@@ -59,11 +59,11 @@ pub fn required() -> Vec<Event> {
     };
     each("answer #", &mut (0..=19));
     for template in ["function # on another format", "function # on a controller of another length"] {
-        each(template, &mut (1..=9).chain([12]));
+        each(template, &mut (1..=7));
     }
     // All that write a controller back but reset, which reads nothing of what was there.
     for template in ["function # writes a flag above 1 back as 0", "function # writes reserved bytes back as 0"] {
-        each(template, &mut (2..=5).chain([12]));
+        each(template, &mut (2..=5));
     }
     each("CSRR read #", &mut (1..=2));
     for call in [

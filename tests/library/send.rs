@@ -8,7 +8,7 @@ use reference::model::Controller;
 use support::counts::Counts;
 
 pub fn watch(controller: &Controller, bytes: &[u8], answers: usize, seen: &Seen, counts: &mut Counts) {
-    if seen.answer == u64::from(NOTHING_SENT) {
+    if seen.answer == NOTHING_SENT {
         return refused(bytes.len(), answers, counts);
     }
     if seen.answer == 0 {

@@ -2,7 +2,7 @@
 
 use crate::cases::Call;
 use crate::compare::Kept;
-use crate::{pictures, send};
+use crate::send;
 use host::expected;
 use host::handed_in::{Row, FX, GREY, HDOT, LIMITED, WRONG_FONTS, WRONG_MEMORIES};
 use host::saved;
@@ -16,19 +16,14 @@ use support::sleep;
 pub struct Seen<'a> {
     pub before: &'a Kept,
     pub font: &'a [u8],
-    pub answer: u64,
-    /// The answers of a record, the dots of a row, or a picture.
+    pub answer: u32,
+    /// The answers of a record, or the dots of a row.
     pub buffer: &'a [u8],
     pub after: &'a Kept,
 }
 
 pub fn call(call: &Call, seen: &Seen, counts: &mut Counts) {
     let Seen { before, answer, after, .. } = *seen;
-    match call {
-        Call::MemoryPictureSize { width, height } => return pictures::watch::memory_size(*width, *height, answer, counts),
-        Call::MemoryPicture { rectangle, length } => return pictures::watch::of_memory(rectangle, *length, seen, counts),
-        _ => {}
-    }
     let controller = match saved::read(&before.controller) {
         Some(controller) => controller,
         None => return no_controller(call, before.controller.len(), counts),
@@ -40,12 +35,6 @@ pub fn call(call: &Call, seen: &Seen, counts: &mut Counts) {
     match call {
         Call::Send { bytes, answers } => return send::watch(&controller, bytes, *answers, seen, counts),
         Call::FrameSize => return frame_size(&controller, answer, counts),
-        Call::FramePictureSize => return pictures::watch::frame_size(&controller, answer, counts),
-        Call::FramePicture { frame, length } => return pictures::watch::of_frame(&controller, *frame, *length, seen, counts),
-        Call::LoadPicture { text, address, pitch } => {
-            return pictures::watch::loading(&controller, text, *address, *pitch, seen, counts);
-        }
-        Call::MemoryPictureSize { .. } | Call::MemoryPicture { .. } => unreachable!("counted above"),
         Call::Reset => {}
         Call::CommandWrite(byte) => sleep::command_write(&controller, *byte, outcome, &left, counts),
         Call::DataWrite(_) => {
@@ -77,13 +66,13 @@ pub fn wrong_memory(length: usize) -> u8 {
     WRONG_MEMORIES.iter().position(|wrong| *wrong == length).expect("one of the wrong lengths") as u8
 }
 
-fn frame_size(controller: &Controller, answer: u64, counts: &mut Counts) {
+fn frame_size(controller: &Controller, answer: u32, counts: &mut Counts) {
     let registers = controller.registers.in_layout();
     counts.hit("frame size, scrolled by #", &[registers.hdot]);
     counts.hit("frame size, grey code #", &[registers.grey]);
     match answer % 65_536 {
         0 => counts.hit("frame size of no dots a row", &[]),
-        width if width > u64::from(WIDEST) => counts.hit("frame size wider than a row may be", &[]),
+        width if width > WIDEST => counts.hit("frame size wider than a row may be", &[]),
         _ => {}
     }
     if answer / 65_536 == 256 {
@@ -93,7 +82,7 @@ fn frame_size(controller: &Controller, answer: u64, counts: &mut Counts) {
     for (at, end) in LIMITED.into_iter().filter(|(at, _)| [FX, HDOT, GREY].contains(at)) {
         let mut low_bits = bytes.clone();
         low_bits[at] &= end.next_power_of_two() - 1;
-        if bytes[at] >= end && u64::from(expected::frame_size(&low_bits)) != answer {
+        if bytes[at] >= end && expected::frame_size(&low_bits) != answer {
             counts.hit("frame size, field at # whose low bits would give another", &[at as u8]);
         }
     }
@@ -145,7 +134,7 @@ fn data_write(controller: &Controller, before: &Kept, number: u8, after: &Kept, 
     }
 }
 
-fn data_read(controller: &Controller, before: &Kept, answer: u64, counts: &mut Counts) {
+fn data_read(controller: &Controller, before: &Kept, answer: u32, counts: &mut Counts) {
     let Controller { pending, place, registers } = *controller;
     match (answer % 256, pending) {
         (1, _) => counts.hit("1 on a data read, wrong memory #", &[wrong_memory(before.memory.len())]),

@@ -1,12 +1,9 @@
-//! What the tests share: seeded numbers, set-ups of the controller, records of a bus file, rectangles and texts of
-//! pictures, and counts of what was reached.
+//! What the tests share: seeded numbers, set-ups of the controller, records of a bus file, and counts of what was reached.
 
 pub mod counts;
 pub mod limits;
 pub mod random;
 pub mod records;
-pub mod rectangles;
 pub mod seeds;
 pub mod setup;
 pub mod sleep;
-pub mod texts;

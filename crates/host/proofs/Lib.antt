@@ -1,2 +1,3 @@
+pub mod SavedBytes
 pub mod Outcomes
 pub mod SentBytes

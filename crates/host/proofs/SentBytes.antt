@@ -20,7 +20,7 @@ use Rattle.model.specs.Refresh.{All}
 use Rattle.model.specs.WriteRun.{run_length, RunOutcome, run_outcome}
 use Rattle.model.proofs.WriteRuns.{run_within, run_accepted}
 use Rattle.host.specs.Sending.{numbers, refusal_count, refusals, SendOutcome, answered, send_outcome, nothing_sent, is_sendable, send_returned, send_saved, after_send}
-use Rattle.saved.specs.Saved.{is_saved, controller_of, saved_bytes}
+use Rattle.host.specs.Saved.{is_saved, controller_of, saved_bytes}
 use Rattle.host.specs.Calls.{returned}
 
 -- Lists of calls, one behind the other

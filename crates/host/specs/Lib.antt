@@ -1,3 +1,3 @@
+pub mod Saved
 pub mod Calls
-pub mod Pictures
 pub mod Sending

@@ -4,7 +4,7 @@ use Rattle.choice.specs.Choice.{if◌then◌else◌, ◌<?◌, ◌=?◌}
 use Rattle.model.specs.Machine.{Machine, machine}
 use Rattle.model.specs.Calls.{BusCall, bus_calls, after, outcomes}
 use Rattle.host.specs.declared.Sent.{Sent}
-use Rattle.saved.specs.Saved.{is_saved, controller_of}
+use Rattle.host.specs.Saved.{is_saved, controller_of}
 use Rattle.host.specs.Calls.{Returned, returned, saving}
 
 -- the number of each call's refusal, 0 where there is none

@@ -1,14 +1,23 @@
 // Single calls. Each answers with the number of the refusal, 0 where there is none; or with NO_CONTROLLER, and then it changes
 // nothing. A data read answers with its value too, times 256. The size of a frame has no refusal, and is 0 in place of NO_CONTROLLER.
 ghost use Rattle.std.specs.Prelude.{ℕ, List, ◌≡◌};
-ghost use Rattle.registers.specs.Refusals.{read_reply};
+ghost use Rattle.registers.specs.Refusals.{reply, read_reply};
 ghost use Rattle.model.specs.Calls.{command, write, read};
-ghost use Rattle.saved.specs.Rows.{row_returned, after_row};
-ghost use Rattle.host.specs.Calls.{returned, answer_of, after_reset, after_call, frame_size_returned};
+ghost use Rattle.host.specs.Calls.{returned, answer_of, after_reset, after_call, after_row, row_returned, frame_size_returned};
 
+use crate::NO_CONTROLLER;
+use crate::saved::{is_saved, read, read_registers, write};
 use model::Controller;
-use registers::ReadAnswer;
-use saved::{NO_CONTROLLER, is_saved, read, write};
+use registers::{Answer, ReadAnswer};
+
+pub fn number(a: Answer) -> u8
+    ensures { result ≡ (reply a).refusal }
+{
+    match a {
+        Answer::Accepted => 0,
+        Answer::Refused(r) => r.number(),
+    }
+}
 
 fn read_number(a: ReadAnswer) -> u32
     ensures { result ≡ answer_of (read_reply a) }
@@ -40,7 +49,7 @@ pub extern "C" fn granivolche_command_write(controller: &mut [u8], byte: u8) -> 
         let w = c.command_write(byte);
         write(w.controller, controller);
         let a = w.answer;
-        return a.number() as u32;
+        return number(a) as u32;
     }
     NO_CONTROLLER
 }
@@ -55,7 +64,7 @@ pub extern "C" fn granivolche_data_write(controller: &mut [u8], memory: &mut [u8
         let w = c.data_write(memory, byte);
         write(w.controller, controller);
         let a = w.answer;
-        return a.number() as u32;
+        return number(a) as u32;
     }
     NO_CONTROLLER
 }
@@ -87,7 +96,12 @@ pub extern "C" fn granivolche_row(
     ensures { row_returned result dots.new
         ≡ after_row controller.now memory.now font.now frame row dots.old }
 {
-    saved::compose_row(controller, memory, font, frame, row, dots)
+    if is_saved(controller) {
+        let r = read_registers(controller);
+        let a = row::compose(r, memory, font, frame, row, dots);
+        return number(a) as u32;
+    }
+    NO_CONTROLLER
 }
 
 #[unsafe(no_mangle)]

@@ -1,10 +1,12 @@
 // The model for callers outside of Rattle: a controller is 48 bytes that the caller keeps and lends to each call.
 mod calls;
-mod pictures;
+mod saved;
 mod sending;
 
 use model::Controller;
 
+// The answer where bytes are no saved controller, of another length or another format. No refusal has this number.
+const NO_CONTROLLER: u32 = 255;
 // The answer where nothing is sent. It is no count of refused bytes, as so many are not sent.
 const NOTHING_SENT: u32 = 0xFFFFFFFF;
 

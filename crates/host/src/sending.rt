@@ -4,10 +4,11 @@ ghost use Rattle.model.specs.Machine.{machine};
 ghost use Rattle.host.specs.Calls.{returned};
 ghost use Rattle.host.specs.Sending.{refusal_count, nothing_sent, send_outcome, sent_outcome, is_sendable, send_returned, after_send};
 
+use crate::calls::number;
+use crate::saved::{is_saved, read, write};
 use crate::{NOTHING_SENT, Sent};
 use dots::clear;
 use model::Controller;
-use saved::{is_saved, read, write};
 
 // 1 where a number is a refusal's.
 fn refusal_count(number: u8) -> u32
@@ -25,7 +26,7 @@ fn send(c: Controller, memory: &mut [u8], bytes: &[u8], answers: &mut [u8]) -> S
     clear(answers);
     let written = c.command_write(bytes[0]);
     let answer = written.answer;
-    let first = answer.number();
+    let first = number(answer);
     answers[0] = first;
     let controller = written.controller;
     let run = controller.write_run(memory, &bytes[1..]);
@@ -37,7 +38,7 @@ fn send(c: Controller, memory: &mut [u8], bytes: &[u8], answers: &mut [u8]) -> S
         let written = controller.data_write(memory, b);
         controller = written.controller;
         let answer = written.answer;
-        let n = answer.number();
+        let n = number(answer);
         answers[i] = n;
         refused += refusal_count(n);
         i += 1;

@@ -8,7 +8,7 @@ use native.Mathlib.Omega.{arith}
 use lib.ListN.{length, length-append, length-map}
 use borrow.Author.Tests.{ltb-false}
 use Rattle.choice.specs.Choice.{if◌then◌else◌, ◌<?◌}
-use Rattle.lines.specs.Lines.{digit, decimal_below, decimal_digits, row_line, longest_line}
+use Rattle.lines.specs.Lines.{digit, decimal_below, decimal, row_line, longest_line}
 use Rattle.lines.specs.Pieces.{with_numbers}
 
 digits-length : (k n j : ℕ) → n < 10 ^ suc j → length (decimal_below k n) ≤ suc j
@@ -22,26 +22,25 @@ digits-length (suc k) n j h = go (n <? 10) refl j h (λ j l. digits-length k (n 
     go false e zero h f = absurd (omega (arith, h, ltb-false n 10 e))
     go false e (suc j) h f = rw length-append (omega (arith, f j ((div-lt_iff_lt-mul (omega arith)).1 (rw pow-suc at h))))
 
--- a number below a power of ten
-pub decimal-length : (n j : ℕ) → n < 10 ^ suc j → length (decimal_digits n) ≤ suc j
-unfolding decimal_digits
-decimal-length n = digits-length (n + 1) n
+decimal-length : (n : ℕ) → n < 2 ^ 64 → length (decimal n) ≤ 21
+unfolding decimal
+decimal-length n h = omega (arith, digits-length (n + 1) n 19 (omega (arith, h)))
 
 -- numbers of 64 bits
 abbrev pub Small : List ℕ → Type 0
 Small [] = Unit {0}
 Small (n ∷ ns) = (n < 2 ^ 64) × Small ns
 
-numbers-length : (separator : ℕ) (text ns : List ℕ) → Small ns → length (with_numbers separator text ns) ≤ length text + 21 * length ns
-numbers-length separator text [] h = omega arith
-numbers-length separator text (n ∷ ns) h =
-    omega (arith, numbers-length separator (text ++ (separator ∷ decimal_digits n)) ns h.1, length-append text (separator ∷ decimal_digits n), decimal-length n 19 (omega (arith, h.0)))
+numbers-length : (text ns : List ℕ) → Small ns → length (with_numbers text ns) ≤ length text + 21 * length ns
+numbers-length text [] h = omega arith
+numbers-length text (n ∷ ns) h =
+    omega (arith, numbers-length (text ++ decimal n) ns h.1, length-append text (decimal n), decimal-length n h.0)
 
 pub row-length : (dots : List ℕ) → length (row_line dots) ≡ length dots + 1
 unfolding row_line
 row-length dots = rw (length-append, length-map)
 
 -- a line with its name, at most four numbers and an end is no longer than the longest
-pub line-length : (name ns end : List ℕ) → Small ns → (length name ≤ 7) × (length ns ≤ 4) × (length end ≤ 4) → length (with_numbers 32 name ns ++ end) ≤ longest_line
+pub line-length : (name ns end : List ℕ) → Small ns → (length name ≤ 7) × (length ns ≤ 4) × (length end ≤ 4) → length (with_numbers name ns ++ end) ≤ longest_line
 line-length name ns end small short =
-    omega (arith, numbers-length 32 name ns small, length-append (with_numbers 32 name ns) end, short.0, short.1, short.2)
+    omega (arith, numbers-length name ns small, length-append (with_numbers name ns) end, short.0, short.1, short.2)

@@ -4,7 +4,7 @@ use Rattle.std.specs.Prelude.{ℕ, zero, suc, ◌+◌, ◌/◌, ◌%◌, List, [
 use Prim.Native.String.{String, [] as none, ◌∷◌ as ◌then◌}
 use Rattle.choice.specs.Choice.{if◌then◌else◌, ◌<?◌, ◌≤?◌}
 use Rattle.lines.specs.declared.Line.{Line}
-use Rattle.lines.specs.declared.Line.TheVariants.{Refused, Read, Frame, Unfiled, Bad, End}
+use Rattle.lines.specs.declared.Line.TheVariants.{Refused, Read, Frame, Bad, End}
 
 -- the bytes of a text
 abbrev pub ascii : String → List ℕ
@@ -24,13 +24,9 @@ unfoldable pub decimal_below : ℕ → ℕ → List ℕ
 decimal_below zero n = []
 decimal_below (suc k) n = (if n <? 10 then [] else decimal_below k (n / 10)) ++ (digit (n % 10) ∷ [])
 
--- a number: decimal, without leading zeros
-unfoldable pub decimal_digits : ℕ → List ℕ
-decimal_digits n = decimal_below (n + 1) n
-
--- a blank and a number
-abbrev pub decimal : ℕ → List ℕ
-decimal n = ascii " " ++ decimal_digits n
+-- a blank and a number: decimal, without leading zeros
+unfoldable pub decimal : ℕ → List ℕ
+decimal n = ascii " " ++ decimal_below (n + 1) n
 
 -- `refused RECORD BYTE NUMBER`
 abbrev pub refused_line : ℕ → ℕ → ℕ → List ℕ
@@ -43,10 +39,6 @@ read_line r index v = ascii "read" ++ decimal r ++ decimal index ++ (ascii " " +
 -- `frame RECORD FRAME WIDTH ROWS`
 abbrev pub frame_line : ℕ → ℕ → ℕ → ℕ → List ℕ
 frame_line r frame width rows = ascii "frame" ++ decimal r ++ decimal frame ++ decimal width ++ decimal rows ++ ascii "\n"
-
--- #103: `unfiled RECORD`
-abbrev pub unfiled_line : ℕ → List ℕ
-unfiled_line r = ascii "unfiled" ++ decimal r ++ ascii "\n"
 
 -- `bad RECORD`
 abbrev pub bad_line : ℕ → List ℕ
@@ -61,7 +53,6 @@ abbrev pub line_text : Line → List ℕ
 line_text (Refused r byte n) = refused_line r byte n
 line_text (Read r index v) = read_line r index v
 line_text (Frame r frame width rows) = frame_line r frame width rows
-line_text (Unfiled r) = unfiled_line r
 line_text (Bad r) = bad_line r
 line_text (End count) = end_line count
 

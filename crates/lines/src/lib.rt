@@ -5,8 +5,7 @@ mod pieces;
 ghost use Rattle.std.specs.Prelude.{◌≡◌};
 ghost use Rattle.lines.specs.Lines.{line_text, row_line, appended, used_after};
 
-pub use pieces::append_numbers;
-use pieces::hex_digit;
+use pieces::{hex_digit, put_line};
 
 // Every line but a row of dots.
 #[derive(Drop)]
@@ -17,8 +16,6 @@ pub enum Line {
     Read(u64, u64, u8),
     // `frame RECORD FRAME WIDTH ROWS`
     Frame(u64, u32, usize, u16),
-    // `unfiled RECORD`
-    Unfiled(u64),
     // `bad RECORD`
     Bad(u64),
     // `end COUNT`
@@ -32,28 +29,24 @@ pub fn append_line(buffer: &mut [u8], used: usize, line: Line) -> usize
     match line {
         Line::Refused(record, byte, number) => {
             let numbers = [record, byte, number as u64];
-            append_numbers(buffer, used, b"refused", b' ', &numbers, b"\n")
+            put_line(buffer, used, b"refused", &numbers, b"\n")
         }
         Line::Read(record, index, value) => {
             let numbers = [record, index];
             let end = [b' ', hex_digit(value / 16), hex_digit(value), b'\n'];
-            append_numbers(buffer, used, b"read", b' ', &numbers, &end)
+            put_line(buffer, used, b"read", &numbers, &end)
         }
         Line::Frame(record, frame, width, rows) => {
             let numbers = [record, frame as u64, width as u64, rows as u64];
-            append_numbers(buffer, used, b"frame", b' ', &numbers, b"\n")
-        }
-        Line::Unfiled(record) => {
-            let numbers = [record];
-            append_numbers(buffer, used, b"unfiled", b' ', &numbers, b"\n")
+            put_line(buffer, used, b"frame", &numbers, b"\n")
         }
         Line::Bad(record) => {
             let numbers = [record];
-            append_numbers(buffer, used, b"bad", b' ', &numbers, b"\n")
+            put_line(buffer, used, b"bad", &numbers, b"\n")
         }
         Line::End(count) => {
             let numbers = [count];
-            append_numbers(buffer, used, b"end", b' ', &numbers, b"\n")
+            put_line(buffer, used, b"end", &numbers, b"\n")
         }
     }
 }

@@ -1,9 +1,9 @@
 // Pieces of lines, in lent buffers.
-ghost use Rattle.std.specs.Prelude.{◌+◌, ◌*◌, ◌≤◌, ◌∷◌, ◌++◌, ◌≡◌, length, take};
-ghost use Rattle.lines.specs.Lines.{hex_digit, decimal_digits, appended, used_after};
+ghost use Rattle.std.specs.Prelude.{◌+◌, ◌*◌, ◌≤◌, ◌++◌, ◌≡◌, length, take};
+ghost use Rattle.lines.specs.Lines.{hex_digit, decimal, appended, used_after};
 ghost use Rattle.lines.specs.Pieces.{with_numbers};
 
-// A name, four numbers, each a separator and at most 20 digits, and an end.
+// A name, four numbers, each a blank and at most 20 digits, and an end.
 const LONGEST: usize = 7 + 4 * 21 + 4;
 
 pub fn hex_digit(n: u8) -> u8
@@ -42,52 +42,44 @@ fn put(line: &mut [u8], used: usize, text: &[u8]) -> usize
     append(line, used, text)
 }
 
-// A separator and a number, of at most 20 digits.
-fn put_number(line: &mut [u8], used: usize, separator: u8, n: u64) -> usize
+// A blank and a number, of at most 20 digits.
+fn put_number(line: &mut [u8], used: usize, n: u64) -> usize
     requires { used + 21 ≤ length line.old }
     ensures upper_bound { result ≤ used + 21 }
-    ensures line_after { take result line.new ≡ take used line.old ++ (separator ∷ decimal_digits n) }
+    ensures line_after { take result line.new ≡ take used line.old ++ decimal n }
 {
     let mut digits = [0u8; 20];
     let k = io::decimal(n, &mut digits);
-    let between = [separator];
-    let start = put(line, used, &between);
-    put(line, start, &digits[..k])
+    let blank = put(line, used, b" ");
+    put(line, blank, &digits[..k])
 }
 
 // Numbers, one behind the other.
-fn put_numbers(line: &mut [u8], used: usize, separator: u8, numbers: &[u64]) -> usize
+fn put_numbers(line: &mut [u8], used: usize, numbers: &[u64]) -> usize
     requires { used + 21 * length numbers.now ≤ length line.old }
     ensures upper_bound { result ≤ used + 21 * length numbers.now }
-    ensures line_after { take result line.new ≡ with_numbers separator (take used line.old) numbers.now }
+    ensures line_after { take result line.new ≡ with_numbers (take used line.old) numbers.now }
 {
     let mut end = used;
     let mut i: usize = 0;
     while i < numbers.len() {
-        end = put_number(line, end, separator, numbers[i]);
+        end = put_number(line, end, numbers[i]);
         i += 1;
     }
     end
 }
 
-// A name, at most four numbers behind it, each behind a separator, and an end: all behind the used bytes of a buffer.
-pub fn append_numbers(
-    buffer: &mut [u8],
-    used: usize,
-    name: &[u8],
-    separator: u8,
-    numbers: &[u64],
-    end: &[u8],
-) -> usize
+// A line into the buffer: its name, at most four numbers, and how it ends.
+pub fn put_line(buffer: &mut [u8], used: usize, name: &[u8], numbers: &[u64], end: &[u8]) -> usize
     requires { (length name.now ≤ 7) × (length numbers.now ≤ 4) × (length end.now ≤ 4) }
     ensures value { result
-        ≡ used_after buffer.old used (with_numbers separator name.now numbers.now ++ end.now) }
+        ≡ used_after buffer.old used (with_numbers name.now numbers.now ++ end.now) }
     ensures buffer_after { buffer.new
-        ≡ appended buffer.old used (with_numbers separator name.now numbers.now ++ end.now) }
+        ≡ appended buffer.old used (with_numbers name.now numbers.now ++ end.now) }
 {
     let mut line = [0u8; LONGEST];
     let k = put(&mut line, 0, name);
-    let k = put_numbers(&mut line, k, separator, numbers);
+    let k = put_numbers(&mut line, k, numbers);
     let k = put(&mut line, k, end);
     append(buffer, used, &line[..k])
 }

@@ -1,10 +1,10 @@
 -- Bytes stored a stride apart: one more, none, those that stand one behind the other, and how many fit.
-use Rattle.std.proofs.Common.{◌≡◌, ℕ, zero, suc, ◌+◌, ◌-◌, ◌*◌, ◌/◌, ◌%◌, ◌<◌, ◌≤◌, min, List, [], ◌∷◌, ◌++◌, length, get_or, take, drop, set, sym, refl, ap, ◌∙◌, append_assoc, add-zero, suc-mul, le-div_iff_mul-le, mul-add, div-mul-le_self, add-one, arith, length-set, drop-cons, drop-drop, le-ltb, lt-ltb}
+use Rattle.std.proofs.Common.{◌≡◌, ℕ, zero, suc, ◌+◌, ◌-◌, ◌*◌, ◌/◌, ◌%◌, ◌<◌, ◌≤◌, min, List, [], ◌∷◌, ◌++◌, length, get_or, take, drop, set, sym, refl, ◌∙◌, append_assoc, add-zero, suc-mul, le-div_iff_mul-le, mul-add, div-mul-le_self, add-one, arith, length-set, drop-cons, drop-drop, le-ltb, lt-ltb}
 use native.Mathlib.Nat.{add-sub_cancel_left, lt-div-mul-add}
-use lib.Seq.{take-length, sets, sets-eq}
+use lib.Seq.{sets, sets-eq}
 use Rattle.choice.proofs.Parts.{copied, part_length}
 use Rattle.registers.specs.Sizes.{memory_size}
-use Rattle.model.specs.Strides.{StoredOutcome, outcome, stored_from, InRoom, strides_on, Fitting}
+use Rattle.model.specs.Strides.{outcome, stored_from, InRoom, strides_on, Fitting}
 
 pub none_stored : (stride done address : ℕ) (memory bs : List ℕ) → (0 < length bs → length memory ≤ address) → outcome address memory done ≡ stored_from stride done address memory bs
 none_stored stride done address memory [] h = refl
@@ -32,12 +32,6 @@ adjacent done address (suc n) memory (b ∷ bs) full e =
 
     further : (x : ℕ) → x + suc n ≡ suc x + n
     further x = omega arith
-
--- all of them, where there is room
-pub all_adjacent : (address : ℕ) (memory bs : List ℕ) → length memory ≡ memory_size → address + length bs ≤ memory_size
-    → (stored_from 1 0 address memory bs).memory ≡ sets memory address bs
-all_adjacent address memory bs full room =
-    ap (λ (o : StoredOutcome). o.memory) (sym (adjacent 0 address (length bs) memory bs full (omega arith))) ∙ rw take-length
 
 -- a part put back, with a copy over it
 pub put_back : (l bs : List ℕ) {part : List ℕ} (at n : ℕ) → length bs ≡ n → at + n ≤ length l → part ≡ take (length bs) bs ++ drop (length bs) (take (at + n - at) (drop at l))

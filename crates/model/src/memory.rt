@@ -1,6 +1,5 @@
-// Accesses to display memory: at the cursor, which then moves, and of a picture's rows.
-ghost use Rattle.std.specs.Prelude.{◌≡◌, ℕ, ◌+◌, ◌%◌, ◌≤◌, min, true, length};
-ghost use Rattle.std.proofs.lemmas.List.Edits.{sets};
+// Accesses to display memory at the cursor, which then moves.
+ghost use Rattle.std.specs.Prelude.{◌≡◌, ℕ, ◌+◌, ◌%◌, min, true, length};
 ghost use Rattle.registers.specs.declared.Command.TheVariants.{Mwrite};
 ghost use Rattle.registers.specs.Commands.{◌is◌};
 ghost use Rattle.registers.specs.Cursor.{next_address};
@@ -122,16 +121,6 @@ fn store_from(memory: &mut [u8], bytes: &[u8], address: u16, stride: u16) -> Sto
 }
 
 impl Controller {
-    // Bytes stored at addresses one after the other, whatever is pending, as by a picture that is read. The cursor stands.
-    pub fn store_bytes(self, memory: &mut [u8], bytes: &[u8], address: usize) -> Controller
-        requires { (length memory.old ≡ memory_size) × (address + length bytes.now ≤ memory_size) }
-        ensures value { result ≡ self }
-        ensures memory_after { memory.new ≡ sets memory.old address bytes.now }
-    {
-        store_adjacent(memory, bytes, address as u16);
-        self
-    }
-
     // The byte b stored at the cursor.
     pub(crate) fn write_memory(mut self, memory: &mut [u8], b: u8) -> Written
         ensures { written_outcome result memory.new ≡ write_memory (machine self memory.old) b }

@@ -1,20 +1,33 @@
 // Runs a bus file from standard input on one controller, with the font of font.bin, and prints what it was answered.
-use session::Shown;
+mod file;
+mod reading;
+
+use session::Step;
+
+// Of the file, the first bytes of the input buffer, up to filled, are at hand; ended says that no more come.
+#[derive(Drop)]
+struct Part {
+    filled: usize,
+    ended: bool,
+}
+
+// A step, and the part of the file in which its place is.
+#[derive(Drop)]
+struct Run {
+    step: Step,
+    part: Part,
+}
 
 fn main() {
-    let mut memory = runner::display_memory();
-    let mut font = runner::font_buffer();
-    let mut input = runner::input_buffer();
+    let mut memory = file::display_memory();
+    let mut font = reading::font_buffer();
+    let mut input = reading::input_buffer();
     let mut out = io::large_buffer();
-    let mut picture = [0u8; 0];
-    let size = runner::read_font(&mut font);
-    runner::run_file(
+    let size = reading::read_font(&mut font);
+    file::run_file(
         &mut memory,
         busfile::part(&font, 0, size),
         &mut input,
         &mut out,
-        Shown::Printed,
-        b"",
-        &mut picture,
     );
 }

@@ -3,7 +3,7 @@ use Rattle.std.proofs.Common.{◌≡◌, ℕ, ◌<◌, ◌≤◌, ◌⊎◌, Lis
 use lib.ListN.{get_or-eq_default}
 use Rattle.choice.proofs.Cases.{lt_or_le}
 use Rattle.registers.specs.declared.Refusal.{Refusal}
-use Rattle.registers.specs.declared.Refusal.TheVariants.{MemorySize, UnknownCommand, NothingWanted, NotAllowed, Asleep, NothingToRead, OutsideMemory, FontSize, GreyMode, CharacterWidth, RowWidth, OddLines, ShortLine, LayerOrder, CursorShape, RowNumber, BufferSize, SmoothScroll, DisplayOff, NoPicture, PictureFit}
+use Rattle.registers.specs.declared.Refusal.TheVariants.{MemorySize, UnknownCommand, NothingWanted, NotAllowed, Asleep, NothingToRead, OutsideMemory, FontSize, GreyMode, CharacterWidth, RowWidth, OddLines, ShortLine, LayerOrder, CursorShape, RowNumber, BufferSize, SmoothScroll, DisplayOff}
 use Rattle.registers.specs.declared.Answer.{Answer}
 use Rattle.registers.specs.declared.Answer.TheVariants.{Accepted, Refused}
 use Rattle.registers.specs.declared.ReadAnswer.{ReadAnswer}
@@ -15,7 +15,7 @@ answers =
     Accepted ∷ Refused MemorySize ∷ Refused UnknownCommand ∷ Refused NothingWanted ∷ Refused NotAllowed ∷ Refused Asleep
     ∷ Refused NothingToRead ∷ Refused OutsideMemory ∷ Refused FontSize ∷ Refused GreyMode ∷ Refused CharacterWidth ∷ Refused RowWidth
     ∷ Refused OddLines ∷ Refused ShortLine ∷ Refused LayerOrder ∷ Refused CursorShape ∷ Refused RowNumber ∷ Refused BufferSize ∷ Refused SmoothScroll
-    ∷ Refused DisplayOff ∷ Refused NoPicture ∷ Refused PictureFit ∷ []
+    ∷ Refused DisplayOff ∷ []
 
 abbrev answered : ℕ → Answer
 answered n = get_or answers n Accepted
@@ -40,8 +40,6 @@ of_number RowNumber = refl
 of_number BufferSize = refl
 of_number SmoothScroll = refl
 of_number DisplayOff = refl
-of_number NoPicture = refl
-of_number PictureFit = refl
 
 of_reply : (a : Answer) → a ≡ answered (reply a).refusal
 of_reply Accepted = refl

@@ -1,7 +1,7 @@
--- Reference, 'Refusals'; 01, 'Refusal numbers', and requests #101 to #103.
+-- Reference, 'Refusals'; 01, 'Refusal numbers', and requests #101 and #102.
 use Rattle.std.specs.Prelude.{ℕ}
 use Rattle.registers.specs.declared.Refusal.{Refusal}
-use Rattle.registers.specs.declared.Refusal.TheVariants.{MemorySize, UnknownCommand, NothingWanted, NotAllowed, Asleep, NothingToRead, OutsideMemory, FontSize, GreyMode, CharacterWidth, RowWidth, OddLines, ShortLine, LayerOrder, CursorShape, RowNumber, BufferSize, SmoothScroll, DisplayOff, NoPicture, PictureFit}
+use Rattle.registers.specs.declared.Refusal.TheVariants.{MemorySize, UnknownCommand, NothingWanted, NotAllowed, Asleep, NothingToRead, OutsideMemory, FontSize, GreyMode, CharacterWidth, RowWidth, OddLines, ShortLine, LayerOrder, CursorShape, RowNumber, BufferSize, SmoothScroll, DisplayOff}
 use Rattle.registers.specs.declared.Answer.{Answer}
 use Rattle.registers.specs.declared.Answer.TheVariants.{Accepted, Refused}
 use Rattle.registers.specs.declared.ReadAnswer.{ReadAnswer}
@@ -46,10 +46,6 @@ number BufferSize = 17
 number SmoothScroll = 18
 -- #102: SLEEP IN with D = 0
 number DisplayOff = 19
--- #103: a text that is not P4 or lacks data, or a zero size
-number NoPicture = 20
--- #103: a width not divisible by 8, a pitch below width / 8, a byte beyond 7FFFh, or an output buffer of another length
-number PictureFit = 21
 
 -- What is answered: the refusal's number, or 0 where there is none, and the value read, or 0. A refused read gives the value 0.
 pub record Reply : Type 0 where

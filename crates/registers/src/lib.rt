@@ -154,11 +154,9 @@ pub enum Refusal {
     BufferSize,
     SmoothScroll,
     DisplayOff,
-    NoPicture,
-    PictureFit,
 }
 
-// What a write, a row or a picture answers.
+// What a write or a row answers.
 #[derive(Drop)]
 pub enum Answer {
     Accepted,

@@ -1,8 +1,8 @@
-// The number of a refusal, and of an answer.
+// The number of a refusal.
 ghost use Rattle.std.specs.Prelude.{◌≡◌};
-ghost use Rattle.registers.specs.Refusals.{number, reply};
+ghost use Rattle.registers.specs.Refusals.{number};
 
-use crate::{Answer, Refusal};
+use crate::Refusal;
 
 impl Refusal {
     pub fn number(self) -> u8
@@ -28,19 +28,6 @@ impl Refusal {
             Refusal::BufferSize => 17,
             Refusal::SmoothScroll => 18,
             Refusal::DisplayOff => 19,
-            Refusal::NoPicture => 20,
-            Refusal::PictureFit => 21,
-        }
-    }
-}
-
-impl Answer {
-    pub fn number(self) -> u8
-        ensures { result ≡ (reply self).refusal }
-    {
-        match self {
-            Answer::Accepted => 0,
-            Answer::Refused(r) => r.number(),
         }
     }
 }

@@ -48,7 +48,3 @@ row_refusal r memoryLength fontLength n bufferLength =
     else if ⁅ s.lf ⁆ ≤? n then 16
     else if not (bufferLength =? width r) then 17
     else 0
-
--- #103: the refusal of a frame, or 0: the row's less 16 and 17, as every frame has row 0 and its buffer is as wide as the row
-unfoldable pub frame_refusal : Registers → ℕ → ℕ → ℕ
-frame_refusal r memoryLength fontLength = row_refusal r memoryLength fontLength 0 (width r)

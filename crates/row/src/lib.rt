@@ -9,7 +9,7 @@ mod rows;
 mod width;
 
 use registers::Count;
-pub use rows::{compose, frame_answer, frame_size};
+pub use rows::{compose, frame_size};
 
 // What a layer shows on a row: nothing, or a row of a block, counted from the block's first.
 #[derive(Drop)]

@@ -1,11 +1,8 @@
 // A row of dots.
 ghost use Rattle.std.specs.Prelude.{◌≡◌, ◌+◌, ◌≤◌, length};
 ghost use Rattle.registers.specs.Counts.{⁅◌⁆};
-ghost use Rattle.registers.specs.Refusals.{reply};
-ghost use Rattle.registers.specs.Layout.{in_layout};
 ghost use Rattle.dots.specs.Tables.{table};
 ghost use Rattle.row.specs.Dots.{width, composed_dot, is_shown, dots};
-ghost use Rattle.row.specs.Refusals.{frame_refusal};
 ghost use Rattle.row.specs.Rows.{frame_size, row_outcome, composed_outcome};
 ghost use Rattle.row.specs.Stages.{ColumnDots, Sized, Composable};
 
@@ -107,22 +104,6 @@ pub fn frame_size(registers: Registers) -> FrameSize
         width: width as u16,
         rows: s.lf.count(),
     }
-}
-
-// The answer to all rows of a frame: 1, 8 to 15 and 18.
-pub fn frame_answer(registers: Registers, memory: &[u8], font: &[u8]) -> Answer
-    ensures { (reply result).refusal ≡ frame_refusal (in_layout registers) (length memory.now) (length font.now) }
-{
-    if memory.len() != MEMORY_SIZE {
-        return Answer::Refused(Refusal::MemorySize);
-    }
-    if font.len() != FONT_SIZE {
-        return Answer::Refused(Refusal::FontSize);
-    }
-    let r = registers.in_layout();
-    let s = r.system;
-    let width = row_width(r.hdot, s.cr, dots_per_column(r.grey, s.fx));
-    row_answer(r, 0, width)
 }
 
 // Row n of a frame into a buffer of a byte a dot, which stands where the row is refused. The sizes of memory

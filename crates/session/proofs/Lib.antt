@@ -3,7 +3,6 @@ pub mod Bytes
 pub mod Calls
 mod Example
 pub mod FrameLines
-pub mod FiledLines
 pub mod Program
 pub mod Short
 pub mod Parts

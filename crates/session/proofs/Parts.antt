@@ -7,27 +7,27 @@ use Rattle.busfile.specs.Records.{record_at}
 use Rattle.busfile.specs.Parts.{further, SameRecord}
 use Rattle.busfile.proofs.Parts.{parts_suffice}
 use Rattle.model.specs.Machine.{Machine}
-use Rattle.session.specs.Records.{Frames, State}
+use Rattle.session.specs.Records.{State}
 use Rattle.session.specs.File.{following, found_lines, after_found}
 use Rattle.session.specs.Parts.{further_on, StepsInParts}
 
 -- what was found in a part, carried out in it and in the file
-found_further : (frames : Frames) (before part after : List ℕ) (at good : ℕ) (s : State) → SameRecord before part after at → (f : Found) → record_at part at ≡ f
-    → further_on (length before) (after_found frames part at good f s)
-    ≡ after_found frames (before ++ (part ++ after)) (length before + at) good (further (length before) f) s
-found_further frames before part after at good s same End e = refl
-found_further frames before part after at good s same Bad e = refl
-found_further frames before part after at good s same (Record r) e = rw (same.payload r e)
+found_further : (font before part after : List ℕ) (at good : ℕ) (s : State) → SameRecord before part after at → (f : Found) → record_at part at ≡ f
+    → further_on (length before) (after_found font part at good f s)
+    ≡ after_found font (before ++ (part ++ after)) (length before + at) good (further (length before) f) s
+found_further font before part after at good s same End e = refl
+found_further font before part after at good s same Bad e = refl
+found_further font before part after at good s same (Record r) e = rw (same.payload r e)
 
 -- its lines
-found_same : (r : ℕ) (m : Machine) (frames : Frames) (before part after : List ℕ) (at : ℕ) → SameRecord before part after at → (f : Found) → record_at part at ≡ f
-    → found_lines r m frames part f ≡ found_lines r m frames (before ++ (part ++ after)) (further (length before) f)
-found_same r m frames before part after at same End e = refl
-found_same r m frames before part after at same Bad e = refl
-found_same r m frames before part after at same (Record x) e = rw (same.payload x e)
+found_same : (r : ℕ) (m : Machine) (font before part after : List ℕ) (at : ℕ) → SameRecord before part after at → (f : Found) → record_at part at ≡ f
+    → found_lines r m font part f ≡ found_lines r m font (before ++ (part ++ after)) (further (length before) f)
+found_same r m font before part after at same End e = refl
+found_same r m font before part after at same Bad e = refl
+found_same r m font before part after at same (Record x) e = rw (same.payload x e)
 
 pub steps_in_parts : StepsInParts
-steps_in_parts frames before part after p h = (go p.more, go-lines p.more)
+steps_in_parts font before part after p h = (go p.more, go-lines p.more)
   where
     file : List ℕ
     file = before ++ (part ++ after)
@@ -36,17 +36,17 @@ steps_in_parts frames before part after p h = (go p.more, go-lines p.more)
     same = parts_suffice before part after p.at h
 
     go : (more : Bool)
-        → further_on (length before) (if more then after_found frames part p.at p.good (record_at part p.at) p.state else p)
-        ≡ (if more then after_found frames file (length before + p.at) p.good (record_at file (length before + p.at)) p.state else further_on (length before) p)
+        → further_on (length before) (if more then after_found font part p.at p.good (record_at part p.at) p.state else p)
+        ≡ (if more then after_found font file (length before + p.at) p.good (record_at file (length before + p.at)) p.state else further_on (length before) p)
     go true =
-        found_further frames before part after p.at p.good p.state same (record_at part p.at) refl
-        ∙ ap (λ (f : Found). after_found frames file (length before + p.at) p.good f p.state) same.found
+        found_further font before part after p.at p.good p.state same (record_at part p.at) refl
+        ∙ ap (λ (f : Found). after_found font file (length before + p.at) p.good f p.state) same.found
     go false = refl
 
     go-lines : (more : Bool)
-        → (if more then found_lines (following p.good) p.state.machine frames part (record_at part p.at) else [])
-        ≡ (if more then found_lines (following p.good) p.state.machine frames file (record_at file (length before + p.at)) else [])
+        → (if more then found_lines (following p.good) p.state.machine font part (record_at part p.at) else [])
+        ≡ (if more then found_lines (following p.good) p.state.machine font file (record_at file (length before + p.at)) else [])
     go-lines true =
-        found_same (following p.good) p.state.machine frames before part after p.at same (record_at part p.at) refl
-        ∙ ap (found_lines (following p.good) p.state.machine frames file) same.found
+        found_same (following p.good) p.state.machine font before part after p.at same (record_at part p.at) refl
+        ∙ ap (found_lines (following p.good) p.state.machine font file) same.found
     go-lines false = refl

@@ -7,7 +7,6 @@ use Rattle.busfile.specs.declared.Found.TheVariants.{Record, Bad, End}
 use Rattle.busfile.specs.Records.{record_at}
 use Rattle.busfile.specs.Parts.{longest_record}
 use Rattle.busfile.proofs.Ends.{record_ends}
-use Rattle.session.specs.Records.{Frames}
 use Rattle.session.specs.File.{Progress, start_of, following, found_lines, after_found, next_step, step_lines}
 use Rattle.session.specs.Parts.{further_on}
 use Rattle.session.specs.Output.{Buffer, printed_all, flushes, OpenAfter}
@@ -18,30 +17,30 @@ use Rattle.session.proofs.Parts.{steps_in_parts}
 use Rattle.session.proofs.Program.{program_prints}
 
 -- the last step apart
-steps_last : (k : ℕ) (frames : Frames) (file : List ℕ) (p : Progress) → steps (suc k) frames file p ≡ next_step frames file (steps k frames file p)
-steps_last zero frames file p = refl
-steps_last (suc k) frames file p = steps_last k frames file (next_step frames file p)
+steps_last : (k : ℕ) (font file : List ℕ) (p : Progress) → steps (suc k) font file p ≡ next_step font file (steps k font file p)
+steps_last zero font file p = refl
+steps_last (suc k) font file p = steps_last k font file (next_step font file p)
 
-lines_last : (k : ℕ) (frames : Frames) (file : List ℕ) (p : Progress) → steps_lines (suc k) frames file p ≡ steps_lines k frames file p ++ step_lines frames file (steps k frames file p)
-lines_last zero frames file p = append-nil (step_lines frames file p)
-lines_last (suc k) frames file p =
-    ap (λ (l : List (List ℕ)). step_lines frames file p ++ l) (lines_last k frames file (next_step frames file p)) ∙ sym (append_assoc (step_lines frames file p) _ _)
+lines_last : (k : ℕ) (font file : List ℕ) (p : Progress) → steps_lines (suc k) font file p ≡ steps_lines k font file p ++ step_lines font file (steps k font file p)
+lines_last zero font file p = append-nil (step_lines font file p)
+lines_last (suc k) font file p =
+    ap (λ (l : List (List ℕ)). step_lines font file p ++ l) (lines_last k font file (next_step font file p)) ∙ sym (append_assoc (step_lines font file p) _ _)
 
 -- what steps print is in the buffer
-step_prints : (frames : Frames) (file : List ℕ) (p : Progress) → (next_step frames file p).state.output ≡ printed_all p.state.output (step_lines frames file p)
-step_prints frames file p = go p.more (record_at file p.at)
+step_prints : (font file : List ℕ) (p : Progress) → (next_step font file p).state.output ≡ printed_all p.state.output (step_lines font file p)
+step_prints font file p = go p.more (record_at file p.at)
   where
     go : (more : Bool) (f : Found)
-        → (if more then after_found frames file p.at p.good f p.state else p).state.output
-        ≡ printed_all p.state.output (if more then found_lines (following p.good) p.state.machine frames file f else [])
+        → (if more then after_found font file p.at p.good f p.state else p).state.output
+        ≡ printed_all p.state.output (if more then found_lines (following p.good) p.state.machine font file f else [])
     go false f = refl
     go true End = refl
     go true Bad = refl
     go true (Record r) = refl
 
-steps_print : (k : ℕ) (frames : Frames) (file : List ℕ) (p : Progress) → (steps k frames file p).state.output ≡ printed_all p.state.output (steps_lines k frames file p)
-steps_print zero frames file p = refl
-steps_print (suc k) frames file p = rw (printed_both, ← step_prints frames file p) (steps_print k frames file (next_step frames file p))
+steps_print : (k : ℕ) (font file : List ℕ) (p : Progress) → (steps k font file p).state.output ≡ printed_all p.state.output (steps_lines k font file p)
+steps_print zero font file p = refl
+steps_print (suc k) font file p = rw (printed_both, ← step_prints font file p) (steps_print k font file (next_step font file p))
 
 abbrev pub placed : ℕ → Progress → Progress
 placed at p = record { state = p.state; at = at; good = p.good; more = p.more }
@@ -51,11 +50,11 @@ same_file : (before past rest more after : List ℕ) {part part' : List ℕ} →
     → before ++ (part ++ (more ++ after)) ≡ (before ++ past) ++ (part' ++ after)
 same_file before past rest more after was becomes = rw (was, becomes) (simp append_assoc)
 
-pub turn_more : (frames : Frames) (start : Progress) (k : ℕ) (p : Progress) (part part' : List ℕ) (at' : ℕ) (takes takes' ended ended' : Bool)
-    → SoFar frames start k p takes part ended → ReadsOn part p.at ended part' at' ended'
-    → OpenAfter takes (flushes p.state.output (step_lines frames part' (placed at' p))) takes'
-    → SoFar frames start (suc k) (next_step frames part' (placed at' p)) takes' part' ended'
-turn_more frames start k p part part' at' takes takes' ended ended' done r opened =
+pub turn_more : (font : List ℕ) (start : Progress) (k : ℕ) (p : Progress) (part part' : List ℕ) (at' : ℕ) (takes takes' ended ended' : Bool)
+    → SoFar font start k p takes part ended → ReadsOn part p.at ended part' at' ended'
+    → OpenAfter takes (flushes p.state.output (step_lines font part' (placed at' p))) takes'
+    → SoFar font start (suc k) (next_step font part' (placed at' p)) takes' part' ended'
+turn_more font start k p part part' at' takes takes' ended ended' done r opened =
     record { before = past; reached = λ after last. one_more after last; stays = λ after last. opened-more after last }
   where
     past : List ℕ
@@ -76,46 +75,46 @@ turn_more frames start k p part part' at' takes takes' ended ended' done r opene
     same : (after : List ℕ) → done.before ++ (part ++ (r.more ++ after)) ≡ file after
     same after = same_file done.before r.past r.rest r.more after r.was r.becomes
 
-    reached : (after : List ℕ) → (ended' ≡ true → after ≡ []) → steps k frames (file after) start ≡ further_on (length past) (placed at' p)
+    reached : (after : List ℕ) → (ended' ≡ true → after ≡ []) → steps k font (file after) start ≡ further_on (length past) (placed at' p)
     reached after last =
-        subst (λ (l : List ℕ). steps k frames l start ≡ further_on (length done.before) p) (same after) (done.reached (r.more ++ after) (none_after after last))
+        subst (λ (l : List ℕ). steps k font l start ≡ further_on (length done.before) p) (same after) (done.reached (r.more ++ after) (none_after after last))
         ∙ same_place
 
-    one_more : (after : List ℕ) → (ended' ≡ true → after ≡ []) → steps (suc k) frames (file after) start ≡ further_on (length past) (next_step frames part' (placed at' p))
+    one_more : (after : List ℕ) → (ended' ≡ true → after ≡ []) → steps (suc k) font (file after) start ≡ further_on (length past) (next_step font part' (placed at' p))
     one_more after last =
-        steps_last k frames (file after) start ∙ ap (next_step frames (file after)) (reached after last)
-        ∙ sym (steps_in_parts frames past part' after (placed at' p) (enough after last)).0
+        steps_last k font (file after) start ∙ ap (next_step font (file after)) (reached after last)
+        ∙ sym (steps_in_parts font past part' after (placed at' p) (enough after last)).0
 
     opened-more : (after : List ℕ) → (ended' ≡ true → after ≡ [])
-        → OpenAfter true (flushes start.state.output (steps_lines (suc k) frames (file after) start)) takes'
+        → OpenAfter true (flushes start.state.output (steps_lines (suc k) font (file after) start)) takes'
     opened-more after last =
-        let was : OpenAfter true (flushes start.state.output (steps_lines k frames (file after) start)) takes =
-        subst (λ (l : List ℕ). OpenAfter true (flushes start.state.output (steps_lines k frames l start)) takes) (same after)
+        let was : OpenAfter true (flushes start.state.output (steps_lines k font (file after) start)) takes =
+        subst (λ (l : List ℕ). OpenAfter true (flushes start.state.output (steps_lines k font l start)) takes) (same after)
         (done.stays (r.more ++ after) (none_after after last)) in
-        let lines : step_lines frames part' (placed at' p) ≡ step_lines frames (file after) (steps k frames (file after) start) =
-        (steps_in_parts frames past part' after (placed at' p) (enough after last)).1 ∙ ap (step_lines frames (file after)) (sym (reached after last)) in
-        let held : p.state.output ≡ printed_all start.state.output (steps_lines k frames (file after) start) =
-        ap (λ (q : Progress). q.state.output) (sym (reached after last)) ∙ steps_print k frames (file after) start in
-        let behind = printed_all start.state.output (steps_lines k frames (file after) start) in
+        let lines : step_lines font part' (placed at' p) ≡ step_lines font (file after) (steps k font (file after) start) =
+        (steps_in_parts font past part' after (placed at' p) (enough after last)).1 ∙ ap (step_lines font (file after)) (sym (reached after last)) in
+        let held : p.state.output ≡ printed_all start.state.output (steps_lines k font (file after) start) =
+        ap (λ (q : Progress). q.state.output) (sym (reached after last)) ∙ steps_print k font (file after) start in
+        let behind = printed_all start.state.output (steps_lines k font (file after) start) in
         let now =
         subst (λ (l : List (List ℕ)). OpenAfter takes (flushes behind l) takes') lines
-        (subst (λ (b : Buffer). OpenAfter takes (flushes b (step_lines frames part' (placed at' p))) takes') held opened) in
+        (subst (λ (b : Buffer). OpenAfter takes (flushes b (step_lines font part' (placed at' p))) takes') held opened) in
         rw (lines_last, flushes_both) (open_both _ _ was now)
 
 -- a step stays within its part
-pub place_within : (frames : Frames) (part : List ℕ) (p : Progress) → p.at ≤ length part → (next_step frames part p).at ≤ length part
-place_within frames part p h = go p.more (record_at part p.at) refl
+pub place_within : (font part : List ℕ) (p : Progress) → p.at ≤ length part → (next_step font part p).at ≤ length part
+place_within font part p h = go p.more (record_at part p.at) refl
   where
     go : (more : Bool) (f : Found) → record_at part p.at ≡ f
-        → (if more then after_found frames part p.at p.good f p.state else p).at ≤ length part
+        → (if more then after_found font part p.at p.good f p.state else p).at ≤ length part
     go false f e = h
     go true End e = h
     go true Bad e = h
     go true (Record r) e = (record_ends part p.at r e).1
 
 pub run_prints : RunPrints
-run_prints frames out turns p takes r framed stopped bytes room =
+run_prints font out turns p takes r stopped bytes room =
     let start = start_of (replicate memory_size 0) out in
-    let all = (program_prints frames r.file out framed bytes room).1 r.count (rw r.ran stopped) in
+    let all = (program_prints font r.file out bytes room).1 r.count (rw r.ran stopped) in
     let same = rw r.ran at all in
     record { prints = same.prints; whole = same.whole }

@@ -7,7 +7,6 @@ use Rattle.choice.proofs.Cases.{choose}
 use Rattle.registers.specs.Refusals.{Reply}
 use Rattle.registers.specs.Layout.{in_layout}
 use Rattle.dots.proofs.Tables.{length_table}
-use Rattle.row.specs.declared.FrameSize.{FrameSize}
 use Rattle.row.specs.Dots.{dots}
 use Rattle.row.specs.Refusals.{row_refusal}
 use Rattle.row.specs.Rows.{RowAnswer, row_answer, frame_size}
@@ -19,11 +18,10 @@ use Rattle.model.specs.Refresh.{All, Byte}
 use Rattle.model.proofs.Runs.{byte_at_lem}
 use Rattle.busfile.specs.declared.Kind.TheVariants.{Bus, Reads, Frame}
 use Rattle.busfile.specs.Records.{word_of, double_word_of}
-use Rattle.lines.specs.Lines.{ascii, decimal, refused_line, read_line, frame_line}
+use Rattle.lines.specs.Lines.{ascii, refused_line, read_line, frame_line}
 use Rattle.lines.proofs.Lengths.{Small, line-length, row-length}
-use Rattle.session.specs.declared.Shown.TheVariants.{Printed, Filed}
-use Rattle.session.specs.Records.{write_reply_lines, read_reply_lines, call_lines, calls_lines, row_lines, or_refused, row_of}
-use Rattle.session.specs.Stream.{Short, ShortFrames, FramesShort, LinesShort}
+use Rattle.session.specs.Records.{write_reply_lines, read_reply_lines, call_lines, calls_lines, row_lines, framed, frame_lines}
+use Rattle.session.specs.Stream.{Short, LinesShort}
 
 -- The number of a refusal fits in a byte
 
@@ -39,10 +37,6 @@ call_refusal m read = search (choose SmallRefusal, lit<) depth 12
 row_refusal_lem : (r : Registers) (memory font n buffer : ℕ) → Byte (row_refusal r memory font n buffer)
 unfolding row_refusal
 row_refusal_lem r memory font n buffer = search (choose Byte, lit<) depth 28
-
--- `unfiled RECORD`, `bad RECORD` and `end COUNT`: a name and a number
-pub number_short : (name : List ℕ) (n : ℕ) → length name ≤ 7 → n < 2 ^ 64 → Short (name ++ decimal n ++ ascii "\n")
-number_short name n h below = line-length name (n ∷ []) (ascii "\n") (below, tt) (h, omega arith, omega arith)
 
 -- Calls: a line has at most three numbers, each of 64 bits
 
@@ -90,36 +84,27 @@ rows_short : (row : ℕ → RowAnswer) (n k : ℕ) → ((n : ℕ) → length (ro
 rows_short row n zero few = tt
 rows_short row n (suc k) few = (omega (arith, row-length (row n).dots, few n), rows_short row (n + 1) k few)
 
+framed_short : (r frame width rows : ℕ) (row : ℕ → RowAnswer) → Small (r ∷ frame ∷ rows ∷ (row 0).refusal ∷ []) → ((row 0).refusal ≡ 0 → width ≤ 640)
+    → ((n : ℕ) → length (row n).dots ≤ 640) → All Short (framed r frame width rows row)
+framed_short r frame width rows row small narrow few =
+    choose (All Short) ((row 0).refusal =? 0) (frame_line r frame width rows ∷ row_lines row 0 rows) (refused_line r 0 (row 0).refusal ∷ [])
+    (λ e. (line-length (ascii "frame") (r ∷ frame ∷ width ∷ rows ∷ []) (ascii "\n") (omega (arith, narrow (eqb-true _ 0 e))) (omega arith), rows_short row 0 rows few))
+    (λ e. (refused_short r 0 (row 0).refusal (omega arith), tt))
+
 few_rows : (registers : Registers) → registers.system.lf.0 < 256 → (frame_size registers).rows.0 ≤ 256
 unfolding in_layout
 few_rows registers h = omega arith
 
-module _ (font : List ℕ) (r : ℕ) (m : Machine) (frame : ℕ) (h : r < 2 ^ 64) (l : m.controller.registers.system.lf.0 < 256) (f : frame < 2 ^ 32) where
-  abbrev size : FrameSize
-  size = frame_size m.controller.registers
-
-  -- what is shown of a frame, whose first line is short where it is accepted
-  frame-short : (shown : List (List ℕ)) → (Short (frame_line r frame size.width size.rows.0) → All Short shown)
-      → All Short (or_refused r (row_of m font frame size.width 0).refusal shown)
-  unfolding row_answer
-  frame-short shown short =
-      let registers = m.controller.registers in
-      let width = size.width in
-      let refusal = row_refusal (in_layout registers) (length m.memory) (length font) 0 width in
-      choose (All Short) (refusal =? 0) shown (refused_line r 0 refusal ∷ [])
-      (λ e. short
-      (line-length (ascii "frame") (r ∷ frame ∷ width ∷ size.rows.0 ∷ []) (ascii "\n")
-      (omega (arith, few_rows registers l, accepted_width (in_layout registers) (length m.memory) (length font) 0 width (eqb-true _ 0 e))) (omega arith)))
-      (λ e. (refused_short r 0 refusal (omega (arith, row_refusal_lem (in_layout registers) (length m.memory) (length font) 0 width)), tt))
-
-pub frames_short : FramesShort
-frames_short Printed filed font r m frame h l f =
-    let size = frame_size m.controller.registers in
-    frame-short font r m frame h l f _
-    (λ first. (first, rows_short (row_of m font frame size.width) 0 size.rows.0 (λ n. few_dots m.controller.registers m.memory font frame n size.width)))
-frames_short Filed filed font r m frame h l f =
-    frame-short font r m frame h l f _
-    (λ first. (choose Short (filed r) _ _ (λ e. first) (λ e. number_short (ascii "unfiled") r (omega arith) h), tt))
+frame_short : (r : ℕ) (m : Machine) (font : List ℕ) (frame : ℕ) → r < 2 ^ 64 → m.controller.registers.system.lf.0 < 256 → frame < 2 ^ 32
+    → All Short (frame_lines r m font frame)
+unfolding row_answer
+frame_short r m font frame h l f =
+    let registers = m.controller.registers in
+    let size = frame_size registers in
+    framed_short r frame size.width size.rows.0 (λ n. row_answer registers m.memory font frame n size.width)
+    (omega (arith, few_rows registers l, row_refusal_lem (in_layout registers) (length m.memory) (length font) 0 size.width))
+    (accepted_width (in_layout registers) (length m.memory) (length font) 0 size.width)
+    (λ n. few_dots registers m.memory font frame n size.width)
 
 -- The numbers in a payload of bytes
 
@@ -137,7 +122,7 @@ bus_count [] = refl
 bus_count (b ∷ bs) = rw length-map
 
 pub lines_short : LinesShort
-lines_short frames r m Bus payload framed h l bytes long = calls_short r 1 m (bus_calls payload) h (omega (arith, bus_count payload))
-lines_short frames r m Reads payload framed h l bytes long =
+lines_short r m font Bus payload h l bytes long = calls_short r 1 m (bus_calls payload) h (omega (arith, bus_count payload))
+lines_short r m font Reads payload h l bytes long =
     calls_short r 1 m (replicate (word_of payload) read) h (omega (arith, length-replicate (word_of payload) read, word_below payload (byte_at_lem payload bytes)))
-lines_short frames r m Frame payload framed h l bytes long = framed r m (double_word_of payload) h l (double_word_below payload (byte_at_lem payload bytes))
+lines_short r m font Frame payload h l bytes long = frame_short r m font (double_word_of payload) h l (double_word_below payload (byte_at_lem payload bytes))

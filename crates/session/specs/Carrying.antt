@@ -4,7 +4,7 @@ use Rattle.model.specs.Calls.{BusCall}
 use Rattle.busfile.specs.declared.Kind.{Kind}
 use Rattle.session.specs.declared.Session.{Session}
 use Rattle.session.specs.Output.{flushes, OpenAfter}
-use Rattle.session.specs.Records.{Frames, State, state, carried_out, calls_lines, record_calls, record_lines}
+use Rattle.session.specs.Records.{State, state, carried_out, calls_lines, record_calls, record_lines}
 
 -- a state, and whether standard output takes bytes
 pub record Live : Type 0 where
@@ -24,6 +24,6 @@ abbrev pub CarriesOutCalls : ℕ → ℕ → List BusCall → Live → Live → 
 CarriesOutCalls r k calls s t = CarriesOut calls (calls_lines r k s.state.machine calls) s t
 
 -- a record is carried out
-abbrev pub CarriesOutRecord : ℕ → Frames → Kind → List ℕ → Live → Live → Type 0
-CarriesOutRecord r frames kind payload s t =
-    CarriesOut (record_calls kind payload) (record_lines r s.state.machine frames kind payload) s t
+abbrev pub CarriesOutRecord : ℕ → List ℕ → Kind → List ℕ → Live → Live → Type 0
+CarriesOutRecord r font kind payload s t =
+    CarriesOut (record_calls kind payload) (record_lines r s.state.machine font kind payload) s t

@@ -1,5 +1,5 @@
 -- Reference, 'The program'; 01, 'Bus file and its program': a file, record by record. Records are numbered from 1; a bad one stops.
-use Rattle.std.specs.Prelude.{◌≡◌, ℕ, ◌+◌, ◌%◌, ◌^◌, Bool, true, false, List, [], ◌∷◌}
+use Rattle.std.specs.Prelude.{ℕ, ◌+◌, ◌%◌, ◌^◌, Bool, true, false, List, [], ◌∷◌}
 use Rattle.choice.specs.Choice.{if◌then◌else◌}
 use Rattle.busfile.specs.declared.Found.{Found}
 use Rattle.busfile.specs.declared.Found.TheVariants.{Record, Bad, End}
@@ -7,11 +7,9 @@ use Rattle.busfile.specs.Records.{record_at, part_of}
 use Rattle.lines.specs.Lines.{bad_line}
 use Rattle.model.specs.Machine.{Machine}
 use Rattle.model.specs.Calls.{reset}
-use Rattle.session.specs.declared.Shown.{Shown}
 use Rattle.session.specs.declared.Step.{Step}
-use Rattle.session.specs.Output.{buffer, printed_all, flushes, OpenAfter}
-use Rattle.session.specs.Records.{Frames, State, state, after_record, record_lines}
-use Rattle.session.specs.Filing.{FiledAs, picture_of, frames_of}
+use Rattle.session.specs.Output.{buffer, printed_all}
+use Rattle.session.specs.Records.{State, state, after_record, record_lines}
 
 -- how far a file is: the state, where the next record stands, how many records were good, and whether the file goes on
 pub record Progress : Type 0 where
@@ -33,40 +31,27 @@ unfoldable pub following : ℕ → ℕ
 following good = (good + 1) % 2 ^ 64
 
 -- the lines of what was found, with the number of its record
-abbrev pub found_lines : ℕ → Machine → Frames → List ℕ → Found → List (List ℕ)
-found_lines r m frames file End = []
-found_lines r m frames file Bad = bad_line r ∷ []
-found_lines r m frames file (Record x) = record_lines r m frames x.kind (part_of file x.start x.end)
+abbrev pub found_lines : ℕ → Machine → List ℕ → List ℕ → Found → List (List ℕ)
+found_lines r m font file End = []
+found_lines r m font file Bad = bad_line r ∷ []
+found_lines r m font file (Record x) = record_lines r m font x.kind (part_of file x.start x.end)
 
 -- the good records were `good`, and this was found at a place
-abbrev pub after_found : Frames → List ℕ → ℕ → ℕ → Found → State → Progress
-after_found frames file at good End s = record { state = s; at = at; good = good; more = false }
-after_found frames file at good Bad s =
-    let stopped : State = record { machine = s.machine; output = printed_all s.output (found_lines (following good) s.machine frames file Bad) } in
+abbrev pub after_found : List ℕ → List ℕ → ℕ → ℕ → Found → State → Progress
+after_found font file at good End s = record { state = s; at = at; good = good; more = false }
+after_found font file at good Bad s =
+    let stopped : State = record { machine = s.machine; output = printed_all s.output (found_lines (following good) s.machine font file Bad) } in
     record { state = stopped; at = at; good = good; more = false }
-after_found frames file at good (Record r) s =
-    let done = after_record (following good) frames r.kind (part_of file r.start r.end) s in
+after_found font file at good (Record r) s =
+    let done = after_record (following good) font r.kind (part_of file r.start r.end) s in
     record { state = done; at = r.end; good = following good; more = true }
 
 -- one record of a file that goes on
-abbrev pub next_step : Frames → List ℕ → Progress → Progress
-next_step frames file p =
-    if p.more then after_found frames file p.at p.good (record_at file p.at) p.state else p
+abbrev pub next_step : List ℕ → List ℕ → Progress → Progress
+next_step font file p =
+    if p.more then after_found font file p.at p.good (record_at file p.at) p.state else p
 
 -- the lines that it prints
-abbrev pub step_lines : Frames → List ℕ → Progress → List (List ℕ)
-step_lines frames file p =
-    if p.more then found_lines (following p.good) p.state.machine frames file (record_at file p.at) else []
-
--- the payload of what was found
-abbrev pub found_payload : List ℕ → Found → List ℕ
-found_payload file End = []
-found_payload file Bad = []
-found_payload file (Record x) = part_of file x.start x.end
-
--- one record more is carried out, and a picture of it is filed or not; whether standard output takes bytes, before and after
-pub record StepsOn (shown : Shown) (folder font file : List ℕ) (p : Progress) (before : Bool) (q : Progress) (after : Bool) : Type 0 where
-  pub filed : Bool
-  pub folder-has : FiledAs folder filed (following p.good) (picture_of p.state.machine font (found_payload file (record_at file p.at)))
-  pub reaches : q ≡ next_step (frames_of shown (λ _. filed) font) file p
-  pub stays : OpenAfter before (flushes p.state.output (step_lines (frames_of shown (λ _. filed) font) file p)) after
+abbrev pub step_lines : List ℕ → List ℕ → Progress → List (List ℕ)
+step_lines font file p =
+    if p.more then found_lines (following p.good) p.state.machine font file (record_at file p.at) else []

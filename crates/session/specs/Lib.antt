@@ -1,6 +1,5 @@
 pub mod Output
 pub mod Records
-pub mod Filing
 pub mod Carrying
 pub mod File
 pub mod Parts

@@ -1,7 +1,6 @@
 -- Reference, 'Bus files': a file that is read in parts has the steps of the whole file.
 use Rattle.std.specs.Prelude.{◌≡◌, ℕ, ◌+◌, ◌≤◌, ◌⊎◌, List, [], ◌++◌, length}
 use Rattle.busfile.specs.Parts.{longest_record}
-use Rattle.session.specs.Records.{Frames}
 use Rattle.session.specs.File.{Progress, next_step, step_lines}
 
 -- a progress, k bytes further on
@@ -12,7 +11,7 @@ further_on k p = record { state = p.state; at = k + p.at; good = p.good; more = 
 -- that place on as many bytes as the longest record; and so are its lines.
 abbrev pub StepsInParts : Type 0
 StepsInParts =
-    (frames : Frames) (before part after : List ℕ) (p : Progress) → (after ≡ []) ⊎ (p.at + longest_record ≤ length part)
+    (font before part after : List ℕ) (p : Progress) → (after ≡ []) ⊎ (p.at + longest_record ≤ length part)
     → let file = before ++ (part ++ after) in
-    (further_on (length before) (next_step frames part p) ≡ next_step frames file (further_on (length before) p))
-    × (step_lines frames part p ≡ step_lines frames file (further_on (length before) p))
+    (further_on (length before) (next_step font part p) ≡ next_step font file (further_on (length before) p))
+    × (step_lines font part p ≡ step_lines font file (further_on (length before) p))

@@ -45,33 +45,26 @@ abbrev pub row_lines : (ℕ → RowAnswer) → ℕ → ℕ → List (List ℕ)
 row_lines row n zero = []
 row_lines row n (suc k) = row_line (row n).dots ∷ row_lines row (n + 1) k
 
--- what is shown of a frame, or its refusal
-abbrev pub or_refused : ℕ → ℕ → List (List ℕ) → List (List ℕ)
-or_refused r refusal shown = if refusal =? 0 then shown else refused_line r 0 refusal ∷ []
-
 abbrev pub framed : ℕ → ℕ → ℕ → ℕ → (ℕ → RowAnswer) → List (List ℕ)
-framed r frame width rows row = or_refused r (row 0).refusal (frame_line r frame width rows ∷ row_lines row 0 rows)
+framed r frame width rows row =
+    if (row 0).refusal =? 0 then frame_line r frame width rows ∷ row_lines row 0 rows
+    else refused_line r 0 (row 0).refusal ∷ []
 
 -- row n, asked of a machine with a buffer of a length
 abbrev pub row_of : Machine → List ℕ → ℕ → ℕ → ℕ → RowAnswer
 row_of m font frame bufferLength n = row_answer m.controller.registers m.memory font frame n bufferLength
 
--- the lines of a frame as a program has them, from the number of its record, a machine, and its own number
-abbrev pub Frames : Type 0
-Frames = ℕ → Machine → ℕ → List (List ℕ)
-
--- a frame that is printed
-abbrev pub frame_lines : List ℕ → Frames
-frame_lines font r m frame =
+abbrev pub frame_lines : ℕ → Machine → List ℕ → ℕ → List (List ℕ)
+frame_lines r m font frame =
     let size = frame_size m.controller.registers in
     framed r frame size.width size.rows.0 (row_of m font frame size.width)
 
 -- A record
 
-abbrev pub record_lines : ℕ → Machine → Frames → Kind → List ℕ → List (List ℕ)
-record_lines r m frames Bus payload = calls_lines r 1 m (record_calls Bus payload)
-record_lines r m frames Reads payload = calls_lines r 1 m (record_calls Reads payload)
-record_lines r m frames Frame payload = frames r m (double_word_of payload)
+abbrev pub record_lines : ℕ → Machine → List ℕ → Kind → List ℕ → List (List ℕ)
+record_lines r m font Bus payload = calls_lines r 1 m (record_calls Bus payload)
+record_lines r m font Reads payload = calls_lines r 1 m (record_calls Reads payload)
+record_lines r m font Frame payload = frame_lines r m font (double_word_of payload)
 
 -- a machine, and the output's buffer
 pub record State : Type 0 where
@@ -87,5 +80,5 @@ abbrev pub carried_out : State → List BusCall → List (List ℕ) → State
 carried_out s cs lines = record { machine = after s.machine cs; output = printed_all s.output lines }
 
 -- the state after a record
-abbrev pub after_record : ℕ → Frames → Kind → List ℕ → State → State
-after_record r frames kind payload s = carried_out s (record_calls kind payload) (record_lines r s.machine frames kind payload)
+abbrev pub after_record : ℕ → List ℕ → Kind → List ℕ → State → State
+after_record r font kind payload s = carried_out s (record_calls kind payload) (record_lines r s.machine font kind payload)

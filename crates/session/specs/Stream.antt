@@ -1,15 +1,13 @@
 -- Reference, 'The program': nothing that is printed is lost: what was written out of the buffer and what it still holds are all its lines, one behind the other.
-use Rattle.std.specs.Prelude.{◌≡◌, ℕ, ◌^◌, ◌<◌, ◌≤◌, Bool, List, [], ◌∷◌, ◌++◌, length, take}
+use Rattle.std.specs.Prelude.{◌≡◌, ℕ, ◌^◌, ◌<◌, ◌≤◌, List, [], ◌∷◌, ◌++◌, length, take}
 use mathlib.Core.List.{flatten}
 use Rattle.choice.specs.Choice.{if◌then◌else◌}
 use Rattle.model.specs.Machine.{Machine}
 use Rattle.model.specs.Refresh.{All, Byte}
 use Rattle.busfile.specs.declared.Kind.{Kind}
 use Rattle.lines.specs.Lines.{longest_line}
-use Rattle.session.specs.declared.Shown.{Shown}
 use Rattle.session.specs.Output.{Buffer, is_full, printed, printed_all}
-use Rattle.session.specs.Records.{Frames, record_lines}
-use Rattle.session.specs.Filing.{frames_of}
+use Rattle.session.specs.Records.{record_lines}
 
 -- what a buffer holds
 abbrev pub held : Buffer → List ℕ
@@ -29,17 +27,8 @@ NothingLost =
     (b : Buffer) (lines : List (List ℕ)) → longest_line ≤ length b.bytes → All Short lines
     → written_out b lines ++ held (printed_all b lines) ≡ held b ++ flatten lines
 
--- the lines of frames are short: with a record number of 64 bits, L/F a byte, and a frame number of 32 bits
-abbrev pub ShortFrames : Frames → Type 0
-ShortFrames frames =
-    (r : ℕ) (m : Machine) (frame : ℕ) → r < 2 ^ 64 → m.controller.registers.system.lf.0 < 256 → frame < 2 ^ 32 → All Short (frames r m frame)
-
--- those of frames that are printed are, and those of frames that are filed
-abbrev pub FramesShort : Type 0
-FramesShort = (shown : Shown) (filed : ℕ → Bool) (font : List ℕ) → ShortFrames (frames_of shown filed font)
-
--- so every line of a record is, with a payload of bytes as long as a record's may be
+-- every line of a record is short: with a record number of 64 bits, L/F a byte, and a payload of bytes as long as a record's may be
 abbrev pub LinesShort : Type 0
 LinesShort =
-    (frames : Frames) (r : ℕ) (m : Machine) (kind : Kind) (payload : List ℕ) → ShortFrames frames → r < 2 ^ 64
-    → m.controller.registers.system.lf.0 < 256 → All Byte payload → length payload ≤ 65532 → All Short (record_lines r m frames kind payload)
+    (r : ℕ) (m : Machine) (font : List ℕ) (kind : Kind) (payload : List ℕ) → r < 2 ^ 64 → m.controller.registers.system.lf.0 < 256
+    → All Byte payload → length payload ≤ 65532 → All Short (record_lines r m font kind payload)

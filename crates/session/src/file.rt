@@ -1,12 +1,15 @@
 // A bus file, record by record.
 ghost use Rattle.std.specs.Prelude.{◌≡◌, ℕ, true, List};
+ghost use Rattle.busfile.specs.Records.{record_at};
 ghost use Rattle.lines.specs.Lines.{end_line};
-ghost use Rattle.session.specs.Output.{buffer, printed, OpenAfter};
-ghost use Rattle.session.specs.File.{progress, start_of, following, StepsOn};
+ghost use Rattle.model.specs.Machine.{machine};
+ghost use Rattle.session.specs.Output.{buffer, printed, flushes, OpenAfter};
+ghost use Rattle.session.specs.Records.{state};
+ghost use Rattle.session.specs.File.{progress, start_of, following, found_lines, after_found, next_step, step_lines};
 
 use crate::printing::{flush, print_line};
 use crate::run::run_record;
-use crate::{Output, Session, Shown, Step};
+use crate::{Output, Session, Step};
 use busfile::Found;
 use lines::Line;
 use model::Controller;
@@ -38,20 +41,15 @@ fn following(good: u64) -> u64
 }
 
 // Carries out what stands at the step's place. A bad record prints `bad` and stops, and so does the end, silently.
-fn next_record(
-    step: Step,
-    memory: &mut [u8],
-    font: &[u8],
-    out: &mut [u8],
-    file: &[u8],
-    shown: Shown,
-    folder: &[u8],
-    picture: &mut [u8],
-) -> Step
-    requires { step.more ≡ true }
-    ensures { StepsOn shown folder.now font.now file.now
-        (progress step memory.old out.old) step.session.output.open
-        (progress result memory.new out.new) result.session.output.open }
+fn next_record(step: Step, memory: &mut [u8], font: &[u8], out: &mut [u8], file: &[u8]) -> Step
+    ensures out_after { progress result memory.new out.new
+        ≡ after_found font.now file.now step.at step.good (record_at file.now step.at)
+        (state step.session memory.old out.old) }
+    ensures open_after { OpenAfter step.session.output.open
+        (flushes (buffer out.old step.session.output.used)
+        (found_lines (following step.good) (machine step.session.controller memory.old) font.now
+        file.now (record_at file.now step.at)))
+        result.session.output.open }
 {
     let at = step.at;
     let good = step.good;
@@ -81,9 +79,7 @@ fn next_record(
     let payload = busfile::payload_at(file, r.start, r.end);
     let kind = r.kind;
     Step {
-        session: run_record(
-            s, memory, font, out, kind, payload, number, shown, folder, picture,
-        ),
+        session: run_record(s, memory, font, out, kind, payload, number),
         at: r.end,
         good: number,
         more: true,
@@ -91,22 +87,16 @@ fn next_record(
 }
 
 // The next record of a file that goes on; one that has stopped stays as it is.
-pub fn next(
-    step: Step,
-    memory: &mut [u8],
-    font: &[u8],
-    out: &mut [u8],
-    file: &[u8],
-    shown: Shown,
-    folder: &[u8],
-    picture: &mut [u8],
-) -> Step
-    ensures { StepsOn shown folder.now font.now file.now
-        (progress step memory.old out.old) step.session.output.open
-        (progress result memory.new out.new) result.session.output.open }
+pub fn next(step: Step, memory: &mut [u8], font: &[u8], out: &mut [u8], file: &[u8]) -> Step
+    ensures out_after { progress result memory.new out.new
+        ≡ next_step font.now file.now (progress step memory.old out.old) }
+    ensures open_after { OpenAfter step.session.output.open
+        (flushes (buffer out.old step.session.output.used)
+        (step_lines font.now file.now (progress step memory.old out.old)))
+        result.session.output.open }
 {
     if step.more {
-        return next_record(step, memory, font, out, file, shown, folder, picture);
+        return next_record(step, memory, font, out, file);
     }
     step
 }

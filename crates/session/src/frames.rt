@@ -6,9 +6,10 @@ ghost use Rattle.model.specs.Machine.{machine};
 ghost use Rattle.session.specs.Output.{Prints};
 ghost use Rattle.session.specs.Records.{row_of, row_lines, framed, frame_lines};
 
-use crate::printing::{at_most, print_line, room};
+use crate::printing::{at_most, print_answer, print_line, room};
 use crate::{Frame, Output, Session};
 use lines::Line;
+use registers::Answer;
 
 fn print_row(o: Output, out: &mut [u8], row: &[u8]) -> Output
     ensures { Prints (row_line row.now ∷ []) o out.old result out.new }
@@ -36,11 +37,11 @@ fn show_rows(
         0 frame.rows.0)
         s.output out.old result out.new }
 {
-    let saved = saved::save(s.controller);
+    let controller = s.controller;
     let mut o = s.output;
     let mut n: u16 = 0;
     while n < frame.rows.0 {
-        saved::compose_row(&saved, memory, font, frame.number, n as u32, row);
+        controller.row(memory, font, frame.number, n as u32, row);
         o = print_row(o, out, row);
         n += 1;
     }
@@ -63,18 +64,19 @@ fn show_frame(
         s.output out.old result out.new }
 {
     let controller = s.controller;
-    let saved = saved::save(controller);
-    let refusal = saved::compose_row(&saved, memory, font, frame.number, 0, row);
-    if refusal != 0 {
-        return print_line(s.output, out, Line::Refused(frame.record, 0, refusal as u8));
+    let answer = controller.row(memory, font, frame.number, 0, row);
+    match answer {
+        Answer::Refused(_) => print_answer(s.output, out, answer, frame.record, 0),
+        Answer::Accepted => {
+            let head = Line::Frame(frame.record, frame.number, row.len(), frame.rows.0);
+            let o = print_line(s.output, out, head);
+            let shown = Session {
+                controller: controller,
+                output: o,
+            };
+            show_rows(shown, memory, font, out, row, frame)
+        }
     }
-    let head = Line::Frame(frame.record, frame.number, row.len(), frame.rows.0);
-    let o = print_line(s.output, out, head);
-    let shown = Session {
-        controller: controller,
-        output: o,
-    };
-    show_rows(shown, memory, font, out, row, frame)
 }
 
 // A frame number to show. 640 dots are enough: a wider frame is refused before 17 is tested.
@@ -86,7 +88,7 @@ pub fn show(
     number: u32,
     record: u64,
 ) -> Output
-    ensures { Prints (frame_lines font.now «record» (machine s.controller memory.now) number)
+    ensures { Prints (frame_lines «record» (machine s.controller memory.now) font.now number)
         s.output out.old result out.new }
 {
     let mut row = [0u8; 640];

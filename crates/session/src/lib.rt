@@ -1,6 +1,5 @@
 // The records of a bus file carried out on a controller, and the lines that they print.
 mod file;
-mod filing;
 mod frames;
 mod printing;
 mod run;
@@ -8,13 +7,6 @@ mod run;
 pub use file::{finish, next, start};
 use model::Controller;
 use registers::Count;
-
-// What is done with a frame: its rows are printed, or its picture is filed.
-#[derive(Drop)]
-pub enum Shown {
-    Printed,
-    Filed,
-}
 
 // How many bytes of the output buffer are used, and whether standard output still takes them.
 #[derive(Drop)]

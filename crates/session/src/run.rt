@@ -1,13 +1,11 @@
 // Records carried out on a controller.
-ghost use Rattle.std.specs.Prelude.{ℕ, ◌<◌, Bool, List, [], ◌∷◌, map, length, drop, replicate};
-ghost use Rattle.model.specs.Machine.{machine};
+ghost use Rattle.std.specs.Prelude.{ℕ, ◌<◌, List, [], ◌∷◌, map, length, drop, replicate};
 ghost use Rattle.model.specs.Calls.{command, write, read, bus_calls};
-ghost use Rattle.session.specs.Filing.{FiledAs, picture_of, frames_of};
 ghost use Rattle.session.specs.Carrying.{live, CarriesOutCalls, CarriesOutRecord};
 
-use crate::filing::show_or_file;
+use crate::Session;
+use crate::frames::show;
 use crate::printing::{print_answer, print_read};
-use crate::{Session, Shown};
 use busfile::Kind;
 use model::Written;
 use registers::Answer;
@@ -106,14 +104,8 @@ pub fn run_record(
     kind: Kind,
     payload: &[u8],
     record: u64,
-    shown: Shown,
-    folder: &[u8],
-    picture: &mut [u8],
 ) -> Session
-    ensures { (filed : Bool)
-        × FiledAs folder.now filed «record»
-        (picture_of (machine s.controller memory.old) font.now payload.now)
-        × CarriesOutRecord «record» (frames_of shown (λ _. filed) font.now) kind payload.now
+    ensures { CarriesOutRecord «record» font.now kind payload.now
         (live s memory.old out.old) (live result memory.new out.new) }
 {
     match kind {
@@ -121,8 +113,7 @@ pub fn run_record(
         Kind::Reads => run_reads(s, memory, out, busfile::word(payload), record),
         Kind::Frame => {
             let controller = s.controller;
-            let number = busfile::double_word(payload);
-            let o = show_or_file(s, memory, font, out, number, record, shown, folder, picture);
+            let o = show(s, memory, font, out, busfile::double_word(payload), record);
             Session {
                 controller: controller,
                 output: o,

@@ -1,7 +1,7 @@
 use mathlib.Core.Path.{sym, ◌∙◌}
-use Rattle.model.specs.Calls.{command, call}
-use Rattle.saved.proofs.SavedBytes.{saved-length}
-use Rattle.host.proofs.Outcomes.{number_alone, done_saved}
+use Rattle.model.specs.Calls.{command}
+use Rattle.host.proofs.SavedBytes.{saved-length}
+use Rattle.host.proofs.Outcomes.{number_alone, call_saved}
 use borrow.Author.Rules.{rules}
 use Rattle.host.proofs.calls.granivolche_command_write.Statement.{statement}
 use Rattle.host.proofs.calls.granivolche_command_write.Tie as tie
@@ -17,6 +17,6 @@ granivolche-command-write-spec =
     (λ c κs. search rules)
     (λ c. search rules)
     (λ c. search rules)
-    (λ c. let w = c.before.before.before in let d = w.before.before in let k = d.before in let t = k.before.before in let a = t.before.before.before.before.args in λ memory. done_saved a.controller.now memory (λ m. call m (command a.byte)) (sym t.before.is-saved.ensures ∙ t.if1.true) k.read.ensures (d.command-write.ensures memory) w.write.ensures (c.number.ensures ∙ number_alone d.command-write.result.answer))
+    (λ c. let w = c.before.before.before in let d = w.before.before in let k = d.before in let t = k.before.before in let a = t.before.before.before.before.args in λ memory. call_saved a.controller.now memory (command a.byte) (sym t.before.is-saved.ensures ∙ t.if1.true) k.read.ensures (d.command-write.ensures memory) w.write.ensures (c.number.ensures ∙ number_alone d.command-write.result.answer))
     (λ c. search rules)
     (λ c. λ memory. rw (sym c.before.is-saved.ensures ∙ c.if1.false)))

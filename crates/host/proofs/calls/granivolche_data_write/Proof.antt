@@ -1,7 +1,7 @@
 use mathlib.Core.Path.{sym, ◌∙◌}
-use Rattle.model.specs.Calls.{write, call}
-use Rattle.saved.proofs.SavedBytes.{saved-length}
-use Rattle.host.proofs.Outcomes.{number_alone, done_saved}
+use Rattle.model.specs.Calls.{write}
+use Rattle.host.proofs.SavedBytes.{saved-length}
+use Rattle.host.proofs.Outcomes.{number_alone, call_saved}
 use borrow.Author.Rules.{rules}
 use Rattle.host.proofs.calls.granivolche_data_write.Statement.{statement}
 use Rattle.host.proofs.calls.granivolche_data_write.Tie as tie
@@ -18,6 +18,6 @@ granivolche-data-write-spec =
     (λ c. search rules)
     (λ c. search rules)
     (λ c. search rules)
-    (λ c. let w = c.before.before.before in let d = w.before.before.before.before in let k = d.before.before in let t = k.before.before in let a = t.before.before.before.before.before.args in done_saved a.controller.now a.memory.now (λ m. call m (write a.byte)) (sym t.before.is-saved.ensures ∙ t.if1.true) k.read.ensures d.data-write.ensures w.write.ensures (c.number.ensures ∙ number_alone d.data-write.result.answer))
+    (λ c. let w = c.before.before.before in let d = w.before.before.before.before in let k = d.before.before in let t = k.before.before in let a = t.before.before.before.before.before.args in call_saved a.controller.now a.memory.now (write a.byte) (sym t.before.is-saved.ensures ∙ t.if1.true) k.read.ensures d.data-write.ensures w.write.ensures (c.number.ensures ∙ number_alone d.data-write.result.answer))
     (λ c. search rules)
     (λ c. rw (sym c.before.is-saved.ensures ∙ c.if1.false)))

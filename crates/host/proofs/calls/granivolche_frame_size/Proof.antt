@@ -1,6 +1,6 @@
 use mathlib.Core.Path.{sym, ◌∙◌}
 use borrow.Author.Rules.{rules}
-use Rattle.saved.proofs.SavedBytes.{saved-length}
+use Rattle.host.proofs.SavedBytes.{saved-length}
 use Rattle.host.proofs.calls.granivolche_frame_size.Statement.{statement}
 use Rattle.host.proofs.calls.granivolche_frame_size.Tie as tie
 

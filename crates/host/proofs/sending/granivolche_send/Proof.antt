@@ -1,6 +1,6 @@
 use mathlib.Core.Path.{sym, ◌∙◌}
 use borrow.Author.Rules.{rules}
-use Rattle.saved.proofs.SavedBytes.{saved-length}
+use Rattle.host.proofs.SavedBytes.{saved-length}
 use Rattle.host.proofs.SentBytes.{sendable, send_saved_lem}
 use Rattle.host.proofs.sending.granivolche_send.Statement.{statement}
 use Rattle.host.proofs.sending.granivolche_send.Tie as tie

@@ -3,7 +3,7 @@ use mathlib.Core.List.{append_assoc}
 use mathlib.Core.Path.{◌∙◌}
 use native.Mathlib.Omega.{arith}
 use borrow.Author.Rules.{rules}
-use Rattle.lines.specs.Lines.{decimal_digits}
+use Rattle.lines.specs.Lines.{decimal}
 use Rattle.lines.proofs.Digits.{decimal_digits_lem, at_most_20}
 use Rattle.lines.proofs.pieces.put_number.Statement.{statement}
 use Rattle.lines.proofs.pieces.put_number.Tie as tie
@@ -15,7 +15,7 @@ put-requires-2 c κs =
     omega (arith, d.decimal.ensures.0.1)
 
 returns : tie.Need-returns
-unfolding decimal_digits
+unfolding decimal
 returns c =
     let p = c.before.before in
     let d = p.before.before.before.before.before.before.before.before in

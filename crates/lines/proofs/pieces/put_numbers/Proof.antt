@@ -7,21 +7,21 @@ use native.Mathlib.Omega.{arith}
 use lib.ListN.{length, get_or, take}
 use lib.Seq.{take-suc, take_all}
 use borrow.Author.Rules.{rules}
-use Rattle.lines.specs.Lines.{decimal_digits}
+use Rattle.lines.specs.Lines.{decimal}
 use Rattle.lines.specs.Pieces.{with_numbers}
 use Rattle.lines.proofs.pieces.put_numbers.Statement.{statement}
 use Rattle.lines.proofs.pieces.put_numbers.Tie as tie
 
-one_more : (separator : ℕ) (text ns : List ℕ) (n : ℕ) → with_numbers separator text (ns ++ (n ∷ [])) ≡ with_numbers separator text ns ++ (separator ∷ decimal_digits n)
-one_more separator text [] n = refl
-one_more separator text (x ∷ ns) n = one_more separator (text ++ (separator ∷ decimal_digits x)) ns n
+one_more : (text ns : List ℕ) (n : ℕ) → with_numbers text (ns ++ (n ∷ [])) ≡ with_numbers text ns ++ decimal n
+one_more text [] n = refl
+one_more text (x ∷ ns) n = one_more (text ++ decimal x) ns n
 
 abbrev invariant-loop : tie.invariant-loop
-invariant-loop line₀ used separator numbers end₀ i₀ line end i =
-    (i ≤ length numbers) × (length line ≡ length line₀) × (end ≤ used + 21 * i) × (take end line ≡ with_numbers separator (take used line₀) (take i numbers))
+invariant-loop line₀ used numbers end₀ i₀ line end i =
+    (i ≤ length numbers) × (length line ≡ length line₀) × (end ≤ used + 21 * i) × (take end line ≡ with_numbers (take used line₀) (take i numbers))
 
 abbrev decreases-loop : tie.decreases-loop
-decreases-loop line₀ used separator numbers end₀ i₀ line end i = length numbers - i
+decreases-loop line₀ used numbers end₀ i₀ line end i = length numbers - i
 
 loop-holds : tie.Need-loop-init invariant-loop decreases-loop
 loop-holds c = (zero-le, refl, omega arith, refl)
@@ -50,8 +50,8 @@ loop-again c =
       omega arith,
       p.put-number.auto.0 ∙ l.loop.invariant.1,
       omega arith,
-      p.put-number.ensures.1 ∙ ap (λ t. t ++ (a.separator ∷ decimal_digits (get_or ns l.loop.i 0))) l.loop.invariant.3
-          ∙ rw (add-one, take-suc ns l.loop.i 0 (omega arith)) (sym (one_more a.separator (take a.used a.line.now) (take l.loop.i ns) _)),
+      p.put-number.ensures.1 ∙ ap (λ t. t ++ decimal (get_or ns l.loop.i 0)) l.loop.invariant.3
+          ∙ rw (add-one, take-suc ns l.loop.i 0 (omega arith)) (sym (one_more (take a.used a.line.now) (take l.loop.i ns) _)),
     )
 
 same_length : tie.Need-same-length invariant-loop decreases-loop

@@ -1,5 +1,4 @@
-use Rattle.std.proofs.Common.{false, refl, inl, rules}
-use mathlib.Core.Bool.{false≢true}
+use Rattle.std.proofs.Common.{refl, inl, rules}
 use Rattle.session.proofs.file.next.Statement.{statement}
 use Rattle.session.proofs.file.next.Tie as tie
 
@@ -10,6 +9,8 @@ next-spec =
     (λ c κs. search rules)
     (λ c. search rules)
     (λ c. search rules)
-    (λ c. search rules)
-    (λ c. c.before.before.before.before.before.before.next-record.ensures)
-    (λ c. record { filed = false; folder-has = λ e. absurd (false≢true e); reaches = rw c.if1.false; stays = rw c.if1.false (inl refl) }))
+    (λ c.
+    let r = c.before.before.before.before in
+    let goes_on = r.before.before.before.if1.true in
+    (rw goes_on r.next-record.ensures.0, rw goes_on r.next-record.ensures.1))
+    (λ c. (rw c.if1.false, rw c.if1.false (inl refl))))

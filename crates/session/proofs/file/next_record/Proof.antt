@@ -1,5 +1,4 @@
-use Rattle.std.proofs.Common.{◌≡◌, false, [], ◌∷◌, sym, refl, ◌∙◌, inl, inr, arith, rules}
-use mathlib.Core.Bool.{false≢true}
+use Rattle.std.proofs.Common.{◌≡◌, [], ◌∷◌, sym, refl, ◌∙◌, inl, inr, arith, rules}
 use denote.Enum.Declared.{tag_of}
 use types.Run.{OneOf}
 use Rattle.busfile.specs.declared.Found.{Found}
@@ -19,36 +18,30 @@ bad End no_record (inr e) = absurd (omega (arith, e))
 returns : tie.Need-returns
 returns c =
     let f = c.before.before in
-    let more = c.before.before.before.before.before.before.before.before.before.before.requires in
     let told = sym f.found_at.ensures ∙ c.enum_told.given.1 in
-    record { filed = false; folder-has = λ e. absurd (false≢true e); reaches = rw (more, told); stays = rw (more, told) (inl refl) }
+    (rw (told), rw (told) (inl refl))
 
 returns-2 : tie.Need-returns-2
 returns-2 c =
     let m = c.before.before.before.before.before in
     let n = m.before in
     let f = n.before.before in
-    let more = c.before.before.before.before.before.before.before.before.before.before.before.before.before.before.before.before.requires in
     let told = sym f.found_at.ensures ∙ bad f.found_at.result m.match2.keys2 n.before.match.keys2 in
     let printed = c.before.before.print-line.ensures in
-    record { filed = false; folder-has = λ e. absurd (false≢true e); reaches = rw (more, told, ← n.following.ensures, printed.text); stays = rw (more, told) printed.stays }
+    (rw (told, ← n.following.ensures, printed.text), rw told printed.stays)
 
 returns-3 : tie.Need-returns-3
 returns-3 c =
-    let r = c.before.before.before.before.before.before in
-    let p = r.before.before.before.before in
+    let r = c.before.before.before.before in
+    let p = r.before.before.before in
     let k = p.before.before in
     let n = k.before.before in
     let f = n.before.before in
-    let more = c.before.before.before.before.before.before.before.before.before.before.before.before.before.before.before.before.before.before.before.before.before.before.before.before.requires in
     let told = sym f.found_at.ensures ∙ k.found.given.1 in
-    let done = r.run-record.ensures in
-    record {
-      filed = done.0;
-      folder-has = rw (told, ← n.following.ensures, ← p.payload-at.ensures) done.1;
-      reaches = rw (more, told, ← n.following.ensures, ← p.payload-at.ensures, done.2.state);
-      stays = rw (more, told, ← n.following.ensures, ← p.payload-at.ensures) done.2.stays;
-    }
+    let done = r.run-record.ensures in (
+      rw (told, ← n.following.ensures, ← p.payload-at.ensures, done.state),
+      rw (told, ← n.following.ensures, ← p.payload-at.ensures) done.stays,
+    )
 
 pub next-record-spec : {M : Type 1} → statement M
 next-record-spec =
@@ -64,7 +57,6 @@ next-record-spec =
     returns-2
     (λ c κs. search rules)
     (λ c κs. search rules)
-    (λ c. search rules)
     (λ c. search rules)
     (λ c. search rules)
     returns-3)

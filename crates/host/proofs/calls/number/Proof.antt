@@ -1,0 +1,13 @@
+use borrow.Author.Rules.{rules}
+use Rattle.host.proofs.calls.number.Statement.{statement}
+use Rattle.host.proofs.calls.number.Tie as tie
+
+pub number-spec : {M : Type 1} → statement M
+number-spec =
+    tie.close
+    (tie.spec
+    (λ c. search rules)
+    (λ c. search rules)
+    (λ c κs. search rules)
+    (λ c. search rules)
+    (λ c. rw (c.before.before.a.given.1, c.number.ensures)))

@@ -1,4 +1,6 @@
 // Records of a bus file: payload length and kind, two bytes each, and the payload; little-endian.
+#![tactic(auto)]
+
 mod reading;
 mod records;
 
@@ -6,7 +8,7 @@ pub use reading::{found_at, payload_at};
 pub use records::{compact, double_word, part, suffices, word};
 
 // Kind 1: a command byte, then its data writes. Kind 2: a count of reads. Kind 3: a frame to show.
-#[derive(Drop)]
+#[derive(Clone, Copy)]
 pub enum Kind {
     Bus,
     Reads,
@@ -14,7 +16,7 @@ pub enum Kind {
 }
 
 // A record's payload starts at start and ends at end, where the next record stands.
-#[derive(Drop)]
+#[derive(Clone, Copy)]
 pub struct Record {
     pub kind: Kind,
     pub start: usize,
@@ -22,7 +24,7 @@ pub struct Record {
 }
 
 // What stands at a place of a bus file.
-#[derive(Drop)]
+#[derive(Clone, Copy)]
 pub enum Found {
     Record(Record),
     Bad,
@@ -30,14 +32,14 @@ pub enum Found {
 }
 
 // Whether a kind and a length go together.
-#[derive(Drop)]
+#[derive(Clone, Copy)]
 pub enum Shape {
     Good(Kind),
     Wrong,
 }
 
 // A bus file and a place in it: the reader shows each payload as the part of the lent bytes that it is.
-#[derive(Drop)]
+#[derive(Clone, Copy)]
 pub struct Reader<'a> {
     pub bytes: &'a [u8],
     pub at: usize,

@@ -1,4 +1,6 @@
 // Lines of bytes: cleared, mixed, scrolled, and expanded to dots. It knows no register.
+#![tactic(auto)]
+
 mod clearing;
 mod expanding;
 mod mixing;

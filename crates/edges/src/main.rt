@@ -1,5 +1,7 @@
 // 'Both sides of each edge', the case that is run and not proved: with [L/F] 2 row 1 answers, and row 2 gets 16. It prints
 // the refusal of each row from 0 to 2, 0 where there is none.
+#![tactic(auto)]
+
 ghost use Rattle.std.specs.Prelude.{◌≡◌, length};
 ghost use Rattle.registers.specs.Sizes.{memory_size, font_size};
 

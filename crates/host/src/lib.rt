@@ -1,4 +1,6 @@
 // The model for callers outside of Rattle: a controller is 48 bytes that the caller keeps and lends to each call.
+#![tactic(auto)]
+
 mod calls;
 mod saved;
 mod sending;
@@ -11,7 +13,7 @@ const NO_CONTROLLER: u32 = 255;
 const NOTHING_SENT: u32 = 0xFFFFFFFF;
 
 // What the calls of a record leave, and how many of them are refused.
-#[derive(Drop)]
+#[derive(Clone, Copy)]
 struct Sent {
     controller: Controller,
     refused: u32,

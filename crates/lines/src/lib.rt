@@ -1,5 +1,7 @@
 // The lines that the program prints. Each is put whole behind the used bytes of a buffer, and the answer is how many are used
 // then; one that does not fit is left out whole.
+#![tactic(auto)]
+
 mod pieces;
 
 ghost use Rattle.std.specs.Prelude.{◌≡◌};
@@ -8,7 +10,7 @@ ghost use Rattle.lines.specs.Lines.{line_text, row_line, appended, used_after};
 use pieces::{hex_digit, put_line};
 
 // Every line but a row of dots.
-#[derive(Drop)]
+#[derive(Clone, Copy)]
 pub enum Line {
     // `refused RECORD BYTE NUMBER`
     Refused(u64, u64, u8),

@@ -16,7 +16,7 @@ use registers::{Answer, Direction, MEMORY_SIZE, ReadAnswer, Refusal};
 const LAST_ADDRESS: u16 = (MEMORY_SIZE - 1) as u16;
 
 // The address behind bytes that were stored, and how many they are.
-#[derive(Drop)]
+#[derive(Clone, Copy)]
 struct Stored {
     address: u16,
     length: usize,

@@ -1,18 +1,20 @@
 // Runs a bus file from standard input on one controller, with the font of font.bin, and prints what it was answered.
+#![tactic(auto)]
+
 mod file;
 mod reading;
 
 use session::Step;
 
 // Of the file, the first bytes of the input buffer, up to filled, are at hand; ended says that no more come.
-#[derive(Drop)]
+#[derive(Clone, Copy)]
 struct Part {
     filled: usize,
     ended: bool,
 }
 
 // A step, and the part of the file in which its place is.
-#[derive(Drop)]
+#[derive(Clone, Copy)]
 struct Run {
     step: Step,
     part: Part,

@@ -1,4 +1,6 @@
 // The registers of one S1D13700: its commands, the register groups that their parameters set, and the answers of a call.
+#![tactic(auto)]
+
 mod commands;
 mod groups;
 mod layout;
@@ -15,11 +17,11 @@ pub const MEMORY_SIZE: usize = 32768;
 pub const FONT_SIZE: usize = 1280;
 
 // A code n as the manual stores it.
-#[derive(Drop)]
+#[derive(Clone, Copy)]
 pub struct Code(pub u8);
 
 // The count [n] = n + 1 that a code n stands for.
-#[derive(Drop)]
+#[derive(Clone, Copy)]
 pub struct Count(pub u16);
 
 impl Code {
@@ -31,7 +33,7 @@ impl Code {
 }
 
 // A command of the command table, or none.
-#[derive(Drop)]
+#[derive(Clone, Copy)]
 pub enum Command {
     None,
     SystemSet,
@@ -51,7 +53,7 @@ pub enum Command {
 }
 
 // SYSTEM SET.
-#[derive(Drop)]
+#[derive(Clone, Copy)]
 pub struct System {
     pub iv: bool,
     pub ws: bool,
@@ -67,7 +69,7 @@ pub struct System {
 }
 
 // DISP OFF and DISP ON: D, which waking clears too, and the flashing of the blocks and of the cursor.
-#[derive(Drop)]
+#[derive(Clone, Copy)]
 pub struct Display {
     pub on: bool,
     pub fp: u8,
@@ -75,7 +77,7 @@ pub struct Display {
 }
 
 // SCROLL: where the four screen blocks start, and the lines of blocks 1 and 2.
-#[derive(Drop)]
+#[derive(Clone, Copy)]
 pub struct Blocks {
     pub sad1: u16,
     pub sl1: Code,
@@ -86,7 +88,7 @@ pub struct Blocks {
 }
 
 // CSRFORM.
-#[derive(Drop)]
+#[derive(Clone, Copy)]
 pub struct CursorForm {
     pub crx: Code,
     pub cm: bool,
@@ -94,7 +96,7 @@ pub struct CursorForm {
 }
 
 // OVLAY.
-#[derive(Drop)]
+#[derive(Clone, Copy)]
 pub struct Overlay {
     pub ov: bool,
     pub dm2: bool,
@@ -102,7 +104,7 @@ pub struct Overlay {
     pub mx: u8,
 }
 
-#[derive(Drop)]
+#[derive(Clone, Copy)]
 pub enum Direction {
     Right,
     Left,
@@ -111,14 +113,14 @@ pub enum Direction {
 }
 
 // CSRW and CSRDIR.
-#[derive(Drop)]
+#[derive(Clone, Copy)]
 pub struct Cursor {
     pub address: u16,
     pub direction: Direction,
 }
 
 // All that the controller stores but the pending command.
-#[derive(Drop)]
+#[derive(Clone, Copy)]
 pub struct Registers {
     pub system: System,
     pub display: Display,
@@ -133,7 +135,7 @@ pub struct Registers {
 }
 
 // The refusals, in the order of their numbers.
-#[derive(Drop)]
+#[derive(Clone, Copy)]
 pub enum Refusal {
     MemorySize,
     UnknownCommand,
@@ -157,14 +159,14 @@ pub enum Refusal {
 }
 
 // What a write or a row answers.
-#[derive(Drop)]
+#[derive(Clone, Copy)]
 pub enum Answer {
     Accepted,
     Refused(Refusal),
 }
 
 // What a read answers.
-#[derive(Drop)]
+#[derive(Clone, Copy)]
 pub enum ReadAnswer {
     Value(u8),
     Refused(Refusal),

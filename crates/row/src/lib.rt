@@ -1,4 +1,6 @@
 // Rows of dots, from the registers, display memory, a font and a frame number.
+#![tactic(auto)]
+
 mod cursor;
 mod fetching;
 mod flashing;
@@ -12,14 +14,14 @@ use registers::Count;
 pub use rows::{compose, frame_size};
 
 // What a layer shows on a row: nothing, or a row of a block, counted from the block's first.
-#[derive(Drop)]
+#[derive(Clone, Copy)]
 pub(crate) enum LayerRow {
     Nothing,
     Block(u8, u16),
 }
 
 // Where a code's glyph comes from: nowhere, a glyph of the font, or CG RAM. Public, as the table of edges names it.
-#[derive(Drop)]
+#[derive(Clone, Copy)]
 pub enum Glyph {
     Empty,
     Font(u8),
@@ -27,7 +29,7 @@ pub enum Glyph {
 }
 
 // The dots of a row, and the rows of a frame.
-#[derive(Drop)]
+#[derive(Clone, Copy)]
 pub struct FrameSize {
     pub width: u16,
     pub rows: Count,

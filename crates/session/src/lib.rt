@@ -1,4 +1,6 @@
 // The records of a bus file carried out on a controller, and the lines that they print.
+#![tactic(auto)]
+
 mod file;
 mod frames;
 mod printing;
@@ -9,21 +11,21 @@ use model::Controller;
 use registers::Count;
 
 // How many bytes of the output buffer are used, and whether standard output still takes them.
-#[derive(Drop)]
+#[derive(Clone, Copy)]
 pub struct Output {
     pub used: usize,
     pub open: bool,
 }
 
 // The controller, and how far its output is.
-#[derive(Drop)]
+#[derive(Clone, Copy)]
 pub struct Session {
     pub controller: Controller,
     pub output: Output,
 }
 
 // How far a file is: where the next record stands, how many were good, and whether the file goes on.
-#[derive(Drop)]
+#[derive(Clone, Copy)]
 pub struct Step {
     pub session: Session,
     pub at: usize,
@@ -32,7 +34,7 @@ pub struct Step {
 }
 
 // A frame to show: the number of its record, its own, and how many rows it has.
-#[derive(Drop)]
+#[derive(Clone, Copy)]
 struct Frame {
     record: u64,
     number: u32,

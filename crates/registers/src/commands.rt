@@ -6,6 +6,7 @@ use crate::Command;
 
 impl Command {
     // The command of a byte, `None` where it is none of the 18 codes.
+    #[tactic(auto, unfolding(crate::specs::Commands::command_of))]
     pub fn of(b: u8) -> Command
         ensures { result ≡ command_of b }
     {

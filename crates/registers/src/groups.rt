@@ -5,6 +5,7 @@ ghost use Rattle.registers.specs.Parameters.{with_low, with_high, store_word, st
 use crate::{Blocks, CursorForm, Display, Overlay, System};
 
 // The two-byte register x with b as its low byte.
+#[tactic(auto, unfolding(crate::specs::Parameters::with_low))]
 fn with_low(x: u16, b: u8) -> u16
     ensures { result ≡ with_low x b }
 {
@@ -12,6 +13,7 @@ fn with_low(x: u16, b: u8) -> u16
 }
 
 // The two-byte register x with b as its high byte.
+#[tactic(auto, unfolding(crate::specs::Parameters::with_high))]
 fn with_high(x: u16, b: u8) -> u16
     ensures { result ≡ with_high x b }
 {
@@ -30,6 +32,7 @@ pub(crate) fn store_word(x: u16, place: u8, b: u8) -> u16
 }
 
 impl System {
+    #[tactic(auto, unfolding(crate::specs::Parameters::store_system))]
     pub(crate) fn store(mut self, place: u8, b: u8) -> System
         ensures { result ≡ store_system place b self }
     {
@@ -59,6 +62,7 @@ impl System {
         self
     }
 
+    #[tactic(auto, unfolding(crate::specs::Parameters::system_allows))]
     pub(crate) fn allows(place: u8, b: u8) -> bool
         ensures { result ≡ system_allows place b }
     {
@@ -82,6 +86,7 @@ impl System {
 }
 
 impl Display {
+    #[tactic(auto, unfolding(crate::specs::Parameters::store_display))]
     pub(crate) fn store(mut self, place: u8, b: u8) -> Display
         ensures { result ≡ store_display place b self }
     {
@@ -94,6 +99,7 @@ impl Display {
 }
 
 impl Blocks {
+    #[tactic(auto, unfolding(crate::specs::Parameters::store_blocks))]
     pub(crate) fn store(mut self, place: u8, b: u8) -> Blocks
         ensures { result ≡ store_blocks place b self }
     {
@@ -115,6 +121,7 @@ impl Blocks {
 }
 
 impl CursorForm {
+    #[tactic(auto, unfolding(crate::specs::Parameters::store_form))]
     pub(crate) fn store(mut self, place: u8, b: u8) -> CursorForm
         ensures { result ≡ store_form place b self }
     {
@@ -133,6 +140,7 @@ impl CursorForm {
         self
     }
 
+    #[tactic(auto, unfolding(crate::specs::Parameters::form_allows))]
     pub(crate) fn allows(place: u8, b: u8) -> bool
         ensures { result ≡ form_allows place b }
     {
@@ -145,6 +153,7 @@ impl CursorForm {
 }
 
 impl Overlay {
+    #[tactic(auto, unfolding(crate::specs::Parameters::store_overlay))]
     pub(crate) fn store(mut self, place: u8, b: u8) -> Overlay
         ensures { result ≡ store_overlay place b self }
     {

@@ -5,6 +5,7 @@ ghost use Rattle.registers.specs.Layout.{field, system_in_layout, display_in_lay
 use crate::{CursorForm, Display, Overlay, Registers, System};
 
 // The value v of a field, 0 where it is not below the limit.
+#[tactic(auto, unfolding(crate::specs::Layout::field))]
 fn read_field(limit: u8, v: u8) -> u8
     ensures { result ≡ field limit v }
 {
@@ -55,6 +56,7 @@ impl Overlay {
 }
 
 impl Registers {
+    #[tactic(auto, unfolding(crate::specs::Layout::in_layout))]
     pub fn in_layout(mut self) -> Registers
         ensures { result ≡ in_layout self }
     {

@@ -20,6 +20,7 @@ fn back(address: u16, step: u16) -> u16
 
 impl Cursor {
     // The cursor after a memory access.
+    #[tactic(auto, unfolding(crate::specs::Cursor::next_address))]
     fn next(self, ap: u16) -> Cursor
         ensures { result ≡ next_cursor ap self }
     {

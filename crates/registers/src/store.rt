@@ -9,6 +9,7 @@ use crate::{
 
 impl Direction {
     // The direction of a byte from 4C to 4F; any other counts as the last.
+    #[tactic(auto, unfolding(crate::specs::Parameters::direction_of))]
     pub fn of(b: u8) -> Direction
         ensures { result ≡ direction_of b }
     {
@@ -23,6 +24,7 @@ impl Direction {
 
 impl Command {
     // Whether b is allowed as the parameter at a place of its list.
+    #[tactic(auto, unfolding(crate::specs::Parameters::allowed))]
     pub fn allows(self, place: u8, b: u8) -> bool
         ensures { result ≡ allowed self place b }
     {
@@ -100,6 +102,7 @@ impl Registers {
     }
 
     // What the byte b of a command sets at once.
+    #[tactic(auto, unfolding(crate::specs::Parameters::begin))]
     pub fn begin(mut self, command: Command, b: u8) -> Registers
         ensures { result ≡ begin command b self }
     {
@@ -134,6 +137,7 @@ impl Registers {
     }
 
     // The parameter b at a place of a command's list, stored.
+    #[tactic(auto, unfolding(crate::specs::Parameters::store))]
     pub fn store(mut self, command: Command, place: u8, b: u8) -> Registers
         ensures { result ≡ store command place b self }
     {

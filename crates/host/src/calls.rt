@@ -85,6 +85,7 @@ pub extern "C" fn granivolche_data_read(controller: &mut [u8], memory: &[u8]) ->
 }
 
 #[unsafe(no_mangle)]
+#[tactic(auto, unfolding(crate::specs::Saved::controller_of))]
 pub extern "C" fn granivolche_row(
     controller: &[u8],
     memory: &[u8],

@@ -8,6 +8,7 @@ use registers::{
 };
 
 // Whether bytes are a saved controller.
+#[tactic(auto, unfolding(crate::specs::Saved::is_saved))]
 pub fn is_saved(s: &[u8]) -> bool
     ensures { result ≡ is_saved s.now }
 {
@@ -23,6 +24,7 @@ fn word(low: u8, high: u8) -> u16
     low as u16 + 256 * high as u16
 }
 
+#[tactic(auto, unfolding(crate::specs::Saved::direction_numbered))]
 fn direction(n: u8) -> Direction
     ensures { result ≡ direction_numbered n }
 {
@@ -108,6 +110,7 @@ pub fn read_registers(s: &[u8]) -> Registers
 }
 
 // The controller of 48 bytes, whatever they are.
+#[tactic(auto, unfolding(crate::specs::Saved::controller_of))]
 pub fn read(s: &[u8]) -> Controller
     requires { length s.now ≡ 48 }
     ensures { result ≡ controller_of s.now }
@@ -134,6 +137,7 @@ fn direction_number(d: Direction) -> u8
     }
 }
 
+#[tactic(auto, unfolding(crate::specs::Saved::saved_bytes))]
 fn saved(c: Controller) -> [u8; 48]
     ensures { result ≡ saved_bytes c }
 {
@@ -200,6 +204,7 @@ fn saved(c: Controller) -> [u8; 48]
 }
 
 // A controller into 48 bytes.
+#[tactic(auto, unfolding(crate::specs::Saved::saved_bytes))]
 pub fn write(c: Controller, out: &mut [u8])
     requires { length out.old ≡ 48 }
     ensures { out.new ≡ saved_bytes c }

@@ -50,6 +50,7 @@ fn send(c: Controller, memory: &mut [u8], bytes: &[u8], answers: &mut [u8]) -> S
 }
 
 // Whether bytes can be sent to a saved controller, with an answer for each.
+#[tactic(auto, unfolding(crate::specs::Sending::is_sendable))]
 fn is_sendable(controller: &[u8], bytes: &[u8], answers: &[u8]) -> bool
     ensures { result ≡ is_sendable controller.now bytes.now answers.now }
 {

@@ -9,6 +9,7 @@ use crate::{Controller, Pending, Read, WriteRun, Written};
 use registers::{Answer, Command, MEMORY_SIZE, ReadAnswer, Refusal, Registers};
 
 // Whether a command is neither taken nor served: asleep, any but SYSTEM SET.
+#[tactic(auto, unfolding(crate::specs::Bus::ignored))]
 fn ignored(command: Command, asleep: bool) -> bool
     ensures { result ≡ ignored command asleep }
 {
@@ -20,6 +21,7 @@ fn ignored(command: Command, asleep: bool) -> bool
 }
 
 // Whether a command is SLEEP IN with the display off: it is to be on before sleep.
+#[tactic(auto, unfolding(crate::specs::Bus::display_off))]
 fn display_off(command: Command, on: bool) -> bool
     ensures { result ≡ display_off command on }
 {
@@ -30,6 +32,7 @@ fn display_off(command: Command, on: bool) -> bool
 }
 
 // How many reads a command gives, but for MREAD, whose reads have no end.
+#[tactic(auto, unfolding(crate::specs::Bus::cursor_reads))]
 fn cursor_reads(command: Command) -> u8
     ensures { result ≡ cursor_reads command }
 {
@@ -37,6 +40,7 @@ fn cursor_reads(command: Command) -> u8
 }
 
 // The byte of the cursor address that CSRR's read at a place gives.
+#[tactic(auto, unfolding(crate::specs::Bus::address_byte))]
 fn address_byte(address: u16, place: u8) -> u8
     ensures { result ≡ address_byte address place }
 {
@@ -84,6 +88,7 @@ impl Controller {
     }
 
     // The pending command that data writes and reads go to.
+    #[tactic(auto, unfolding(crate::specs::Bus::served))]
     fn served(self) -> Command
         ensures { result ≡ served self }
     {
@@ -96,6 +101,7 @@ impl Controller {
         }
     }
 
+    #[tactic(auto, unfolding(crate::specs::Bus::command_write))]
     pub fn command_write(mut self, b: u8) -> Written
         ensures { (memory : List ℕ) → written_outcome result memory ≡ command_write (machine self memory) b }
     {
@@ -116,6 +122,7 @@ impl Controller {
         }
     }
 
+    #[tactic(auto, unfolding(crate::specs::Bus::data_write, crate::specs::Bus::write_parameter))]
     pub fn data_write(mut self, memory: &mut [u8], b: u8) -> Written
         ensures { written_outcome result memory.new ≡ data_write (machine self memory.old) b }
     {
@@ -149,6 +156,7 @@ impl Controller {
     }
 
     // The data writes of as many bytes, from the first on, as go into memory and are accepted.
+    #[tactic(auto, unfolding(crate::specs::WriteRun::stores))]
     pub fn write_run(mut self, memory: &mut [u8], bytes: &[u8]) -> WriteRun
         ensures { write_run_outcome result memory.new ≡ run_outcome (machine self memory.old) bytes.now }
     {
@@ -168,6 +176,7 @@ impl Controller {
         }
     }
 
+    #[tactic(auto, unfolding(crate::specs::Bus::data_read, crate::specs::Bus::read_cursor))]
     pub fn data_read(mut self, memory: &[u8]) -> Read
         ensures { read_outcome result memory.now ≡ data_read (machine self memory.now) }
     {

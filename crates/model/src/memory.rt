@@ -30,6 +30,7 @@ fn smaller(a: usize, b: usize) -> usize
 }
 
 // How far each access moves the cursor, modulo 65,536.
+#[tactic(auto, unfolding(registers::specs::Cursor::next_address))]
 fn stride(direction: Direction, ap: u16) -> u16
     ensures { (address : ℕ) → next_address direction ap address ≡ (address + result) % 65536 }
 {
@@ -122,6 +123,7 @@ fn store_from(memory: &mut [u8], bytes: &[u8], address: u16, stride: u16) -> Sto
 
 impl Controller {
     // The byte b stored at the cursor.
+    #[tactic(auto, unfolding(crate::specs::Bus::write_memory))]
     pub(crate) fn write_memory(mut self, memory: &mut [u8], b: u8) -> Written
         ensures { written_outcome result memory.new ≡ write_memory (machine self memory.old) b }
     {
@@ -161,6 +163,7 @@ impl Controller {
     }
 
     // The byte at the cursor.
+    #[tactic(auto, unfolding(crate::specs::Bus::read_memory))]
     pub(crate) fn read_memory(mut self, memory: &[u8]) -> Read
         ensures { read_outcome result memory.now ≡ read_memory (machine self memory.now) }
     {

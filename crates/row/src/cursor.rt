@@ -17,6 +17,7 @@ use registers::{Code, CursorForm, Registers};
 const FIRST_BITS: [u8; 8] = [0, 128, 192, 224, 240, 248, 252, 254];
 
 // A byte whose first [n] bits are set.
+#[tactic(auto, unfolding(crate::specs::Stages::first_bits))]
 fn first_bits(n: Code) -> u8
     ensures { result ≡ first_bits ⁅ n ⁆ }
 {
@@ -29,6 +30,7 @@ fn first_bits(n: Code) -> u8
 }
 
 // Whether the cursor's shape has a glyph row.
+#[tactic(auto, unfolding(crate::specs::Cursor::in_shape))]
 fn in_shape(f: CursorForm, row: u16) -> bool
     ensures { result ≡ in_shape f row }
 {
@@ -40,6 +42,7 @@ fn in_shape(f: CursorForm, row: u16) -> bool
 }
 
 // Whether the cursor shows on row q of a block: then it inverts the cells whose code address it is.
+#[tactic(auto, unfolding(crate::specs::Cursor::has_cursor))]
 fn shows_cursor(r: Registers, block: u8, q: u16, frame: u32) -> bool
     ensures { (c : ℕ) → has_cursor r frame (Block block q) c
         ≡ (result && code_address r block q c % 65536 =? r.cursor.address) }
@@ -58,6 +61,7 @@ fn shows_cursor(r: Registers, block: u8, q: u16, frame: u32) -> bool
 }
 
 // Stage 2 of a row: the cursor in the bytes of layer 1. A row has at most one column at its address.
+#[tactic(auto, unfolding(crate::specs::Cursor::has_cursor))]
 pub fn invert(r: Registers, frame: u32, layer: LayerRow, line: &mut [u8])
     requires { length line.old ≤ 256 }
     ensures { line.new

@@ -29,7 +29,7 @@ fn memory_bytes(memory: &[u8], start: u16, line: &mut [u8])
     let at = start as usize;
     let end = at + line.len();
     if end <= memory.len() {
-        bytes::copy(&memory[at..end], line);
+        line.copy_from_slice(&memory[at..end]);
         return;
     }
     let mut c: usize = 0;
@@ -61,6 +61,7 @@ fn glyph_bytes(
 }
 
 // The bytes of a layer: zeros where it shows nothing, or FP darkens its block; else those of a row of text or graphics.
+#[tactic(auto, unfolding(crate::specs::Dots::layer_byte))]
 pub fn layer_bytes(
     r: Registers,
     memory: &[u8],

@@ -2,6 +2,7 @@
 ghost use Rattle.std.specs.Prelude.{◌≡◌, ◌<◌, ◌≤◌};
 ghost use Rattle.row.specs.Flashing.{is_on, flashing, is_lit};
 
+#[tactic(auto, unfolding(crate::specs::Flashing::is_on))]
 fn is_on(period: u32, frame: u32) -> bool
     requires { (0 < period) × (period ≤ 64) }
     ensures { result ≡ is_on period frame }
@@ -10,6 +11,7 @@ fn is_on(period: u32, frame: u32) -> bool
 }
 
 // Whether what has a code of FP or FC shows; code 3 is of the period given.
+#[tactic(auto, unfolding(crate::specs::Flashing::flashing))]
 pub fn flashes(code: u8, period: u32, frame: u32) -> bool
     requires { (0 < period) × (period ≤ 64) }
     ensures { result ≡ flashing code period frame }
@@ -27,6 +29,7 @@ pub fn flashes(code: u8, period: u32, frame: u32) -> bool
 }
 
 // Whether FP shows a block.
+#[tactic(auto, unfolding(crate::specs::Flashing::is_lit))]
 pub fn is_lit(fp: u8, block: u8, frame: u32) -> bool
     ensures { result ≡ is_lit fp block frame }
 {

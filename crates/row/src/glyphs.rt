@@ -6,6 +6,7 @@ ghost use Rattle.row.specs.Glyphs.{fetch, glyph_of, font_byte, cg_ram_byte, glyp
 use crate::Glyph;
 
 // A fetch past the end of memory gives 0.
+#[tactic(auto, unfolding(crate::specs::Glyphs::fetch))]
 pub fn fetch(memory: &[u8], address: u16) -> u8
     ensures { result ≡ fetch memory.now address }
 {
@@ -13,6 +14,7 @@ pub fn fetch(memory: &[u8], address: u16) -> u8
     if at < memory.len() { memory[at] } else { 0 }
 }
 
+#[tactic(auto, unfolding(crate::specs::Glyphs::glyph_of))]
 fn glyph_of(m0: bool, code: u8) -> Glyph
     ensures { result ≡ glyph_of m0 code }
 {
@@ -35,6 +37,7 @@ fn glyph_of(m0: bool, code: u8) -> Glyph
 }
 
 // The font has 160 glyphs.
+#[tactic(auto, unfolding(crate::specs::Glyphs::font_byte))]
 fn font_byte(font: &[u8], index: u8, row: u16) -> u8
     requires { (length font.now ≡ font_size) × (index < 160) }
     ensures { result ≡ font_byte font.now index row }
@@ -45,6 +48,7 @@ fn font_byte(font: &[u8], index: u8, row: u16) -> u8
     0
 }
 
+#[tactic(auto, unfolding(crate::specs::Glyphs::cg_ram_byte))]
 fn cg_ram_byte(m2: bool, cgram: u16, memory: &[u8], code: u8, row: u16) -> u8
     ensures { result ≡ cg_ram_byte m2 cgram memory.now code row }
 {
@@ -62,6 +66,7 @@ fn cg_ram_byte(m2: bool, cgram: u16, memory: &[u8], code: u8, row: u16) -> u8
 }
 
 // A row of the glyph of a code. Each source is called from one place, so that it is inlined.
+#[tactic(auto, unfolding(crate::specs::Glyphs::glyph_byte, crate::specs::Glyphs::glyph_row))]
 pub fn glyph_byte(
     m0: bool,
     m2: bool,

@@ -5,6 +5,7 @@ ghost use Rattle.row.specs.Layers.{is_text, sad, three_layers, split, halves, la
 use crate::LayerRow;
 use registers::{Blocks, Code, Overlay, Registers};
 
+#[tactic(auto, unfolding(crate::specs::Layers::is_text))]
 pub fn is_text(o: Overlay, block: u8) -> bool
     ensures { result ≡ is_text o block }
 {
@@ -18,6 +19,7 @@ pub fn is_text(o: Overlay, block: u8) -> bool
 }
 
 // The start address of a block.
+#[tactic(auto, unfolding(crate::specs::Layers::sad))]
 pub fn sad(b: Blocks, block: u8) -> u16
     ensures { result ≡ sad b block }
 {
@@ -33,6 +35,7 @@ pub fn sad(b: Blocks, block: u8) -> u16
     b.sad4
 }
 
+#[tactic(auto, unfolding(crate::specs::Layers::three_layers))]
 pub fn three_layers(ws: bool, o: Overlay) -> bool
     ensures { result ≡ three_layers ws o }
 {
@@ -48,6 +51,7 @@ pub fn three_layers(ws: bool, o: Overlay) -> bool
 }
 
 // A block for rows below [SL], then block 3.
+#[tactic(auto, unfolding(crate::specs::Layers::split))]
 fn split(block: u8, sl: Code, n: u16) -> LayerRow
     ensures { result ≡ split block sl n }
 {
@@ -60,6 +64,7 @@ fn split(block: u8, sl: Code, n: u16) -> LayerRow
 }
 
 // A block in the upper half, blank from [SL] on, and a block in the lower half.
+#[tactic(auto, unfolding(crate::specs::Layers::halves))]
 fn halves(upper: u8, lower: u8, lf: Code, sl: Code, n: u16) -> LayerRow
     ensures { result ≡ halves upper lower lf sl n }
 {
@@ -75,6 +80,7 @@ fn halves(upper: u8, lower: u8, lf: Code, sl: Code, n: u16) -> LayerRow
     LayerRow::Block(lower, n - half)
 }
 
+#[tactic(auto, unfolding(crate::specs::Layers::layer1))]
 pub fn layer1(r: Registers, n: u16) -> LayerRow
     ensures { result ≡ layer1 r n }
 {
@@ -92,6 +98,7 @@ pub fn layer1(r: Registers, n: u16) -> LayerRow
     LayerRow::Block(1, n)
 }
 
+#[tactic(auto, unfolding(crate::specs::Layers::layer2))]
 pub fn layer2(r: Registers, n: u16) -> LayerRow
     ensures { result ≡ layer2 r n }
 {
@@ -109,6 +116,7 @@ pub fn layer2(r: Registers, n: u16) -> LayerRow
     LayerRow::Block(2, n)
 }
 
+#[tactic(auto, unfolding(crate::specs::Layers::layer3))]
 pub fn layer3(r: Registers, n: u16) -> LayerRow
     ensures { result ≡ layer3 r n }
 {

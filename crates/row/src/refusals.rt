@@ -8,6 +8,7 @@ use crate::layers::three_layers;
 use crate::width::{dots_per_column, row_width};
 use registers::{Answer, Blocks, Code, CursorForm, Overlay, Refusal, Registers};
 
+#[tactic(auto, unfolding(crate::specs::Refusals::grey_mode))]
 fn grey_mode(grey: u8, o: Overlay, fx: Code) -> bool
     ensures { result ≡ grey_mode grey o fx }
 {
@@ -22,6 +23,7 @@ fn grey_mode(grey: u8, o: Overlay, fx: Code) -> bool
     true
 }
 
+#[tactic(auto, unfolding(crate::specs::Refusals::smooth_scroll))]
 fn smooth_scroll(hdot: u8, grey: u8, fx: Code, cr: Code) -> bool
     ensures { result ≡ smooth_scroll hdot grey fx cr }
 {
@@ -37,6 +39,7 @@ fn smooth_scroll(hdot: u8, grey: u8, fx: Code, cr: Code) -> bool
     true
 }
 
+#[tactic(auto, unfolding(crate::specs::Refusals::odd_lines))]
 fn odd_lines(ws: bool, lf: Code) -> bool
     ensures { result ≡ odd_lines ws lf }
 {
@@ -46,6 +49,7 @@ fn odd_lines(ws: bool, lf: Code) -> bool
     false
 }
 
+#[tactic(auto, unfolding(crate::specs::Refusals::layer_order))]
 fn layer_order(ws: bool, o: Overlay, b: Blocks) -> bool
     ensures { result ≡ layer_order ws o b }
 {
@@ -64,6 +68,7 @@ fn layer_order(ws: bool, o: Overlay, b: Blocks) -> bool
     false
 }
 
+#[tactic(auto, unfolding(crate::specs::Refusals::cursor_shape))]
 fn cursor_shape(fc: u8, f: CursorForm, fx: Code) -> bool
     ensures { result ≡ cursor_shape fc f fx }
 {
@@ -77,6 +82,7 @@ fn cursor_shape(fc: u8, f: CursorForm, fx: Code) -> bool
 }
 
 // The answer to row n, with memory and font of their sizes: the first refusal that applies. An accepted row number fits 16 bits.
+#[tactic(auto, unfolding(crate::specs::Dots::width, crate::specs::Refusals::row_refusal))]
 pub fn row_answer(r: Registers, n: u32, buffer_length: usize) -> Answer
     requires { r.grey < 3 }
     ensures result_value { (reply result).refusal ≡ row_refusal r memory_size font_size n buffer_length }

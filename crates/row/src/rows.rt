@@ -43,6 +43,7 @@ fn mix_layers(
 
 // The dots of row n with the display on, by way of a line of its bytes: fetched, with the cursor, mixed, scrolled, and expanded. The row's own buffer
 // holds the bytes of layers 2 and 3 until its dots go there.
+#[tactic(auto, unfolding(crate::specs::Dots::width))]
 fn paint(
     r: Registers,
     memory: &[u8],
@@ -94,6 +95,7 @@ fn draw(r: Registers, memory: &[u8], font: &[u8], frame: u32, n: u16, out: &mut 
 }
 
 // How large a frame is, refused or not.
+#[tactic(auto, unfolding(crate::specs::Dots::dots_per_column, registers::specs::Layout::in_layout, crate::specs::Dots::width))]
 pub fn frame_size(registers: Registers) -> FrameSize
     ensures { result ≡ frame_size registers }
 {

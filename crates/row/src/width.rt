@@ -5,6 +5,7 @@ ghost use Rattle.row.specs.Dots.{dots_per_column, shown_columns};
 
 use registers::Code;
 
+#[tactic(auto, unfolding(crate::specs::Dots::dots_per_column))]
 pub fn dots_per_column(grey: u8, fx: Code) -> u16
     requires { grey < 3 }
     ensures { result ≡ dots_per_column grey fx }
@@ -26,6 +27,7 @@ pub fn columns(cr: Code) -> usize
 }
 
 // The columns that a row shows.
+#[tactic(auto, unfolding(crate::specs::Dots::shown_columns))]
 pub fn shown_columns(hdot: u8, cr: Code) -> usize
     ensures { (result ≡ shown_columns hdot cr) × (result ≤ 256) }
 {

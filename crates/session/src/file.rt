@@ -34,6 +34,7 @@ pub fn start() -> Step
 }
 
 // The number of the next record.
+#[tactic(auto, unfolding(crate::specs::File::following))]
 fn following(good: u64) -> u64
     ensures { result ≡ following good }
 {

@@ -22,6 +22,9 @@ CHOSEN = {
     "written_out": "written_out_lem",
 }
 
+# What definitions and lemmas bind.
+BOUND = ("bufferLength", "cgRamAddressOf", "fontIndexOf", "fontLength", "layerDot", "memoryLength", "sentData", "twoDot")
+
 
 def files(*patterns):
     return sorted({f for p in patterns for f in glob.glob(p, recursive=True)})
@@ -46,6 +49,7 @@ def main():
     lemmas = files("crates/*/proofs/*.antt")
     names = defined(specs + lemmas)
     camel = {n: snake(n) for n in names if re.fullmatch(r"[a-z][A-Za-z0-9_]*", n) and re.search(r"[A-Z]", n)}
+    camel |= {n: snake(n) for n in BOUND} | {"allHold": "each_holds"}
     dashed = {}
     for n in names:
         if n in CHOSEN or "-" in n and not n.endswith(JOINED) and re.fullmatch(r"[A-Za-z0-9_'\-]+", n):

@@ -53,15 +53,15 @@ module _ (memory : List ℕ) (full : length memory ≡ memory_size) where
   abbrev holds : Edge → Bool
   holds e = observed e.observation (sized_call (sized_after (reset memory) e.before) e.last) =? e.expected
 
-  abbrev allHold : List Edge → Bool
-  allHold [] = true
-  allHold (e ∷ es) = holds e && allHold es
+  abbrev each_holds : List Edge → Bool
+  each_holds [] = true
+  each_holds (e ∷ es) = holds e && each_holds es
 
   -- a table that passes the test holds
-  all_hold : (es : List Edge) → T (allHold es) → All (λ e. observed e.observation (call (after (reset memory) e.before) e.last) ≡ e.expected) es
+  all_hold : (es : List Edge) → T (each_holds es) → All (λ e. observed e.observation (call (after (reset memory) e.before) e.last) ≡ e.expected) es
   all_hold [] t = tt
   all_hold (e ∷ es) t =
-      let b = both (holds e) (allHold es) t in (
+      let b = both (holds e) (each_holds es) t in (
         ap (observed e.observation) (call_sized (after (reset memory) e.before) (after_size (reset memory) e.before ∙ full) e.last
             ∙ ap (λ (m : Machine). sized_call m e.last) (after_sized (reset memory) full e.before))
             ∙ eqb→eq _ _ b.0,

@@ -73,9 +73,9 @@ after_dark m (c ∷ cs) n d = after_dark (call m c).machine cs n.1 (call_dark m 
 
 shows_nothing : (m : Machine) → Dark m.controller.registers → ShowsNothing m
 unfolding row_answer in_layout
-shows_nothing m d font frame n bufferLength =
+shows_nothing m d font frame n buffer_length =
     let r = in_layout m.controller.registers in
-    choose (All (λ dot. dot ≡ 0)) (row_refusal r (length m.memory) (length font) n bufferLength =? 0) (dots r m.memory font frame n) []
+    choose (All (λ dot. dot ≡ 0)) (row_refusal r (length m.memory) (length font) n buffer_length =? 0) (dots r m.memory font frame n) []
     (λ e. rw (dark_row r m.memory font frame n d) (all_replicate (λ dot. dot ≡ 0) 0 refl (width r)))
     (λ e. tt)
 

@@ -46,7 +46,7 @@ pub record RowRequest : Type 0 where
   pub row : ℕ
   pub font : List ℕ
   pub frame : ℕ
-  pub bufferLength : ℕ
+  pub buffer_length : ℕ
 
 pub data Call : Type 0 where
   bus : BusCall → Call
@@ -66,7 +66,7 @@ call_outcome m (bus c) = record { machine = (call m c).machine; answer = replied
 call_outcome m (row q) =
     record {
       machine = m;
-      answer = composed (row_answer m.controller.registers m.memory q.font q.frame q.row q.bufferLength);
+      answer = composed (row_answer m.controller.registers m.memory q.font q.frame q.row q.buffer_length);
     }
 
 -- after each call of a list: registers, cursor and memory, and the answer

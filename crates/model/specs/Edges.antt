@@ -26,8 +26,8 @@ pub data Observation : Type 0 where
   -- 1 where a block shows in a frame, else 0
   lit : ℕ → ℕ → Observation
   -- of glyph row 0 of a code: the index of its font byte, and its CG RAM address
-  fontIndexOf : ℕ → Observation
-  cgRamAddressOf : ℕ → Observation
+  font_index_of : ℕ → Observation
+  cg_ram_address_of : ℕ → Observation
 
 -- past the font where a glyph is not of the font, past all addresses where it is not of CG RAM
 abbrev pub index_in : Glyph → ℕ
@@ -46,8 +46,8 @@ observed cursor o = o.machine.controller.registers.cursor.address
 observed (byte address) o = slice_index o.machine.memory address
 observed (row0 buffer) o = (row_answer o.machine.controller.registers o.machine.memory (replicate font_size 0) 0 0 buffer).refusal
 observed (lit block frame) o = if is_lit (in_layout o.machine.controller.registers).display.fp block frame then 1 else 0
-observed (fontIndexOf code) o = index_in (glyph_of o.machine.controller.registers.system.m0 code)
-observed (cgRamAddressOf code) o =
+observed (font_index_of code) o = index_in (glyph_of o.machine.controller.registers.system.m0 code)
+observed (cg_ram_address_of code) o =
     let r = o.machine.controller.registers in
     address_in (glyph_of r.system.m0 code) (cg_ram_address r.system.m2 r.cgram code 0)
 
@@ -114,9 +114,9 @@ edges =
     ∷ edge (sending 0x59 []) (write 0x0C) (lit 1 2) 1
     ∷ edge (sending 0x59 []) (write 0x0C) (lit 1 3) 0
     -- code 41h, glyph row 0: font byte 264
-    ∷ edge [] (command 0x40) (fontIndexOf 0x41) 264
+    ∷ edge [] (command 0x40) (font_index_of 0x41) 264
     -- code E0h, CGRAM ADR F900h, M2 = 0: address 0000h
-    ∷ edge (sending 0x5C (0x00 ∷ [])) (write 0xF9) (cgRamAddressOf 0xE0) 0x0000
+    ∷ edge (sending 0x5C (0x00 ∷ [])) (write 0xF9) (cg_ram_address_of 0xE0) 0x0000
     -- [FX] 8, 1 bit: [C/R] 80 gives 640 dots, 81 gets 11
     ∷ edge (columns 79 83) (write 0) (row0 640) 0
     ∷ edge (columns 80 84) (write 0) (row0 648) 11

@@ -63,12 +63,12 @@ module _ (r : Refresh) where
   abbrev pub opcode : Command → ℕ
   opcode c = if c is Disp && r.on then 0x59 else code c
 
-  abbrev pub sentData : Command → List ℕ
-  sentData c = if c is Mwrite then r.memory else all_bytes c (r.values c)
+  abbrev pub sent_data : Command → List ℕ
+  sent_data c = if c is Mwrite then r.memory else all_bytes c (r.values c)
 
   -- a command with its data
   abbrev pub send : Command → List BusCall
-  send c = sending (opcode c) (sentData c)
+  send c = sending (opcode c) (sent_data c)
 
   abbrev pub sends : List Command → List BusCall
   sends [] = []

@@ -24,8 +24,8 @@ NoneOn m (c ∷ cs) = NotOn m c × NoneOn (call m c).machine cs
 -- every dot of every row that is accepted is 0
 abbrev pub ShowsNothing : Machine → Type 0
 ShowsNothing m =
-    (font : List ℕ) (frame n bufferLength : ℕ)
-    → All (λ dot. dot ≡ 0) (row_answer m.controller.registers m.memory font frame n bufferLength).dots
+    (font : List ℕ) (frame n buffer_length : ℕ)
+    → All (λ dot. dot ≡ 0) (row_answer m.controller.registers m.memory font frame n buffer_length).dots
 
 abbrev pub DarkUntilOn : Type 0
 DarkUntilOn =

@@ -57,9 +57,9 @@ unfolding in_layout
 grey_code registers = field_below 3 registers.grey (omega arith)
 
 -- what a row with no refusal has passed
-record Passed (r : Registers) (memoryLength fontLength n bufferLength : ℕ) : Type 0 where
-  memory-size : not (memoryLength =? memory_size) ≡ false
-  font-size : not (fontLength =? font_size) ≡ false
+record Passed (r : Registers) (memory_length font_length n buffer_length : ℕ) : Type 0 where
+  memory-size : not (memory_length =? memory_size) ≡ false
+  font-size : not (font_length =? font_size) ≡ false
   grey : grey_mode r.grey r.overlay r.system.fx ≡ false
   narrow : (8 <? ⁅ r.system.fx ⁆) ≡ false
   scrolls : smooth_scroll r.hdot r.grey r.system.fx r.system.cr ≡ false
@@ -69,13 +69,13 @@ record Passed (r : Registers) (memoryLength fontLength n bufferLength : ℕ) : T
   order : layer_order r.system.ws r.overlay r.blocks ≡ false
   cursor : cursor_shape r.display.fc r.form r.system.fx ≡ false
   below : (⁅ r.system.lf ⁆ ≤? n) ≡ false
-  whole : not (bufferLength =? width r) ≡ false
+  whole : not (buffer_length =? width r) ≡ false
 
-passes : (r : Registers) (memoryLength fontLength n bufferLength : ℕ) → row_refusal r memoryLength fontLength n bufferLength ≡ 0 → Passed r memoryLength fontLength n bufferLength
+passes : (r : Registers) (memory_length font_length n buffer_length : ℕ) → row_refusal r memory_length font_length n buffer_length ≡ 0 → Passed r memory_length font_length n buffer_length
 unfolding row_refusal
-passes r memoryLength fontLength n bufferLength e =
-    let p1 = passed (not (memoryLength =? memory_size)) 0 _ e in
-    let p8 = passed (not (fontLength =? font_size)) 7 _ p1.1 in
+passes r memory_length font_length n buffer_length e =
+    let p1 = passed (not (memory_length =? memory_size)) 0 _ e in
+    let p8 = passed (not (font_length =? font_size)) 7 _ p1.1 in
     let p9 = passed (grey_mode r.grey r.overlay r.system.fx) 8 _ p8.1 in
     let p10 = passed (8 <? ⁅ r.system.fx ⁆) 9 _ p9.1 in
     let p18 = passed (smooth_scroll r.hdot r.grey r.system.fx r.system.cr) 17 _ p10.1 in
@@ -85,7 +85,7 @@ passes r memoryLength fontLength n bufferLength e =
     let p14 = passed (layer_order r.system.ws r.overlay r.blocks) 13 _ p13.1 in
     let p15 = passed (cursor_shape r.display.fc r.form r.system.fx) 14 _ p14.1 in
     let p16 = passed (⁅ r.system.lf ⁆ ≤? n) 15 _ p15.1 in
-    let p17 = passed (not (bufferLength =? width r)) 16 _ p16.1 in
+    let p17 = passed (not (buffer_length =? width r)) 16 _ p16.1 in
     record {
       memory-size = p1.0;
       font-size = p8.0;
@@ -101,17 +101,17 @@ passes r memoryLength fontLength n bufferLength e =
       whole = p17.0;
     }
 
-pub record Composed (r : Registers) (n bufferLength : ℕ) : Type 0 where
+pub record Composed (r : Registers) (n buffer_length : ℕ) : Type 0 where
   pub below : n < ⁅ r.system.lf ⁆
-  pub whole : bufferLength ≡ width r
+  pub whole : buffer_length ≡ width r
   pub composable : Composable r
 
-pub accepted : (r : Registers) → r.grey < 3 → (memoryLength fontLength n bufferLength : ℕ) → row_refusal r memoryLength fontLength n bufferLength ≡ 0 → Composed r n bufferLength
-accepted r code memoryLength fontLength n bufferLength e =
-    let p = passes r memoryLength fontLength n bufferLength e in
+pub accepted : (r : Registers) → r.grey < 3 → (memory_length font_length n buffer_length : ℕ) → row_refusal r memory_length font_length n buffer_length ≡ 0 → Composed r n buffer_length
+accepted r code memory_length font_length n buffer_length e =
+    let p = passes r memory_length font_length n buffer_length e in
     record {
       below = leb-false ⁅ r.system.lf ⁆ n p.below;
-      whole = eqb-true bufferLength (width r) (not-false (bufferLength =? width r) p.whole);
+      whole = eqb-true buffer_length (width r) (not-false (buffer_length =? width r) p.whole);
       composable = record {
         code = code;
         narrow = ltb-false 8 ⁅ r.system.fx ⁆ p.narrow;
@@ -121,23 +121,23 @@ accepted r code memoryLength fontLength n bufferLength e =
     }
 
 -- an accepted row has at most 640 dots
-pub accepted_width : (r : Registers) (memoryLength fontLength n bufferLength : ℕ) → row_refusal r memoryLength fontLength n bufferLength ≡ 0 → width r ≤ 640
-accepted_width r memoryLength fontLength n bufferLength e = ltb-false 640 (width r) (passes r memoryLength fontLength n bufferLength e).fits
+pub accepted_width : (r : Registers) (memory_length font_length n buffer_length : ℕ) → row_refusal r memory_length font_length n buffer_length ≡ 0 → width r ≤ 640
+accepted_width r memory_length font_length n buffer_length e = ltb-false 640 (width r) (passes r memory_length font_length n buffer_length e).fits
 
 -- the rows of a frame are accepted together
-pub other_row : (r : Registers) (memoryLength fontLength n k bufferLength : ℕ) → row_refusal r memoryLength fontLength n bufferLength ≡ 0 → k < ⁅ r.system.lf ⁆ → row_refusal r memoryLength fontLength k bufferLength ≡ 0
+pub other_row : (r : Registers) (memory_length font_length n k buffer_length : ℕ) → row_refusal r memory_length font_length n buffer_length ≡ 0 → k < ⁅ r.system.lf ⁆ → row_refusal r memory_length font_length k buffer_length ≡ 0
 unfolding row_refusal
-other_row r memoryLength fontLength n k bufferLength e h =
-    let p = passes r memoryLength fontLength n bufferLength e in
+other_row r memory_length font_length n k buffer_length e h =
+    let p = passes r memory_length font_length n buffer_length e in
     rw (p.memory-size, p.font-size, p.grey, p.narrow, p.scrolls, p.fits, p.even, p.long, p.order, p.cursor, lt-leb ⁅ r.system.lf ⁆ k h, p.whole)
 
 -- a row that is too wide is refused whatever its buffer
-pub wide_refused : (r : Registers) (memoryLength fontLength n : ℕ) → 640 < width r
-    → ((b : ℕ) → row_refusal r memoryLength fontLength n b ≡ row_refusal r memoryLength fontLength n (width r)) × (row_refusal r memoryLength fontLength n (width r) ≡ 0 → ⊥)
+pub wide_refused : (r : Registers) (memory_length font_length n : ℕ) → 640 < width r
+    → ((b : ℕ) → row_refusal r memory_length font_length n b ≡ row_refusal r memory_length font_length n (width r)) × (row_refusal r memory_length font_length n (width r) ≡ 0 → ⊥)
 unfolding row_refusal
-wide_refused r memoryLength fontLength n h =
+wide_refused r memory_length font_length n h =
     let w = lt-ltb 640 (width r) h in
-    (λ b. rw w, λ e. absurd (subst T (sym w ∙ (passes r memoryLength fontLength n (width r) e).fits) tt))
+    (λ b. rw w, λ e. absurd (subst T (sym w ∙ (passes r memory_length font_length n (width r) e).fits) tt))
 
 -- the outcome of a row with a memory or a font of another size, of an accepted row, and of a refused one
 

@@ -34,17 +34,17 @@ module _ (r : Registers) (memory font : List ℕ) (frame n : ℕ) where
   abbrev bytes : LayerRow → ℕ → ℕ
   bytes layer = layer_byte r memory font frame layer
 
-  abbrev layerDot : LayerRow → ℕ → ℕ → ℕ
-  layerDot layer c j = dot_of (bits_per_dot r.grey) (bytes layer c) j
+  abbrev layer_dot : LayerRow → ℕ → ℕ → ℕ
+  layer_dot layer c j = dot_of (bits_per_dot r.grey) (bytes layer c) j
 
   -- dot j of column c of layers 1 and 2, mixed
-  abbrev twoDot : ℕ → ℕ → ℕ
-  twoDot c j =
-      mix r.overlay.mx (inverted (has_cursor r frame (layer1 r n) c) ⁅ r.form.crx ⁆ j (layerDot (layer1 r n) c j)) (layerDot (layer2 r n) c j) 0
+  abbrev two_dot : ℕ → ℕ → ℕ
+  two_dot c j =
+      mix r.overlay.mx (inverted (has_cursor r frame (layer1 r n) c) ⁅ r.form.crx ⁆ j (layer_dot (layer1 r n) c j)) (layer_dot (layer2 r n) c j) 0
 
   -- a line's dots are those of layers 1 and 2
   abbrev pub TwoDots : List ℕ → Type 0
-  TwoDots line = (c j : ℕ) → c < ⁅ r.system.cr ⁆ → j < per_column r → dot_of (bits_per_dot r.grey) (get_or line c 0) j ≡ twoDot c j
+  TwoDots line = (c j : ℕ) → c < ⁅ r.system.cr ⁆ → j < per_column r → dot_of (bits_per_dot r.grey) (get_or line c 0) j ≡ two_dot c j
 
   -- the bytes of a layer mixed into a line
   pub mixed-in : (layer : LayerRow) (mx : ℕ) (line : List ℕ) {next mixed : List ℕ} {m k : ℕ} → k ≡ m → next ≡ table k (bytes layer)
@@ -64,7 +64,7 @@ module _ (r : Registers) (memory font : List ℕ) (frame n : ℕ) where
       (element _ e3 q3 c lc ∙ ap (λ (x : ℕ). mix_byte r.overlay.mx r.grey x (bytes (layer2 r n) c))
       (element _ e2 q2 c lc ∙ ap (λ (x : ℕ). cursor_byte r frame (layer1 r n) c x) (element _ e1 q1 c lc)))
       ∙ mix_dots r.overlay.mx r.grey (per_column r) _ _ j fit lj
-      ∙ ap (λ (d : ℕ). mix r.overlay.mx d (layerDot (layer2 r n) c j) 0)
+      ∙ ap (λ (d : ℕ). mix r.overlay.mx d (layer_dot (layer2 r n) c j) 0)
       (cursor_dots r frame (layer1 r n) c (bytes (layer1 r n) c) j h (λ z. let p = fit.one z in omega arith))
 
   -- without layer 3 that is all
@@ -80,7 +80,7 @@ module _ (r : Registers) (memory font : List ℕ) (frame n : ℕ) where
   three-layers mixed h q two e c j lc lj =
       ap (λ (b : ℕ). dot_of (bits_per_dot r.grey) b j) (element _ e q c lc)
       ∙ mix_dots (third_mix r.overlay.mx) r.grey (per_column r) _ _ j (columns_fit r h).1 lj
-      ∙ ap (λ (d : ℕ). mix (third_mix r.overlay.mx) d (layerDot (layer3 r n) c j) 0) (two c j lc lj)
+      ∙ ap (λ (d : ℕ). mix (third_mix r.overlay.mx) d (layer_dot (layer3 r n) c j) 0) (two c j lc lj)
       ∙ mix_steps r.overlay.mx _ _ _
 
   -- the row that such a line expands to, scrolled

@@ -56,5 +56,5 @@ module _ (r : Registers) (memory font : List ℕ) (frame : ℕ) where
 
 pub scrolled_part : ScrolledPart
 unfolding row_answer
-scrolled_part registers memory font frame n bufferLength e =
+scrolled_part registers memory font frame n buffer_length e =
     rw (eq-eqb _ 0 e) (part_of (in_layout registers) memory font frame (accepted (in_layout registers) (grey_code registers) _ _ _ _ e).composable n)

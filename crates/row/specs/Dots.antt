@@ -37,11 +37,11 @@ layer_byte r memory font frame (Block block q) c = if is_lit r.display.fp block 
 -- dot j of column c of row n, with the cursor in layer 1
 unfoldable pub column_dot : Registers → List ℕ → List ℕ → ℕ → ℕ → ℕ → ℕ → ℕ
 column_dot r memory font frame n c j =
-    let layerDot : LayerRow → ℕ = λ layer. dot_of (bits_per_dot r.grey) (layer_byte r memory font frame layer c) j in
+    let layer_dot : LayerRow → ℕ = λ layer. dot_of (bits_per_dot r.grey) (layer_byte r memory font frame layer c) j in
     mix r.overlay.mx
-    (inverted (has_cursor r frame (layer1 r n) c) ⁅ r.form.crx ⁆ j (layerDot (layer1 r n)))
-    (layerDot (layer2 r n))
-    (layerDot (layer3 r n))
+    (inverted (has_cursor r frame (layer1 r n) c) ⁅ r.form.crx ⁆ j (layer_dot (layer1 r n)))
+    (layer_dot (layer2 r n))
+    (layer_dot (layer3 r n))
 
 -- dot x of row n as 01 composes it without scrolling, with the display on
 unfoldable pub composed_dot : Registers → List ℕ → List ℕ → ℕ → ℕ → ℕ → ℕ

@@ -33,10 +33,10 @@ cursor_shape fc f fx = not (fc =? 0) && (f.cry.0 =? 0 || ⁅ fx ⁆ <? ⁅ f.crx
 
 -- the refusal of row n, or 0
 unfoldable pub row_refusal : Registers → ℕ → ℕ → ℕ → ℕ → ℕ
-row_refusal r memoryLength fontLength n bufferLength =
+row_refusal r memory_length font_length n buffer_length =
     let s = r.system in
-    if not (memoryLength =? memory_size) then 1
-    else if not (fontLength =? font_size) then 8
+    if not (memory_length =? memory_size) then 1
+    else if not (font_length =? font_size) then 8
     else if grey_mode r.grey r.overlay s.fx then 9
     else if 8 <? ⁅ s.fx ⁆ then 10
     else if smooth_scroll r.hdot r.grey s.fx s.cr then 18
@@ -46,5 +46,5 @@ row_refusal r memoryLength fontLength n bufferLength =
     else if layer_order s.ws r.overlay r.blocks then 14
     else if cursor_shape r.display.fc r.form s.fx then 15
     else if ⁅ s.lf ⁆ ≤? n then 16
-    else if not (bufferLength =? width r) then 17
+    else if not (buffer_length =? width r) then 17
     else 0

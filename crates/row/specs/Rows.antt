@@ -21,9 +21,9 @@ pub record RowAnswer : Type 0 where
 
 -- row n of a frame
 unfoldable pub row_answer : Registers → List ℕ → List ℕ → ℕ → ℕ → ℕ → RowAnswer
-row_answer registers memory font frame n bufferLength =
+row_answer registers memory font frame n buffer_length =
     let r = in_layout registers in
-    let refusal = row_refusal r (length memory) (length font) n bufferLength in
+    let refusal = row_refusal r (length memory) (length font) n buffer_length in
     record { refusal = refusal; dots = if refusal =? 0 then dots r memory font frame n else [] }
 
 -- what is left in the buffer: the row's dots; a refused row's buffer stands

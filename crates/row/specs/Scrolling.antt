@@ -24,7 +24,7 @@ unscrolled r =
 -- an accepted row is the part from dot HDOT SCR on of the row that those registers give
 abbrev pub ScrolledPart : Type 0
 ScrolledPart =
-    (registers : Registers) (memory font : List ℕ) (frame n bufferLength : ℕ)
-    → let row = row_answer registers memory font frame n bufferLength in
+    (registers : Registers) (memory font : List ℕ) (frame n buffer_length : ℕ)
+    → let row = row_answer registers memory font frame n buffer_length in
     let r = in_layout registers in
     row.refusal ≡ 0 → row.dots ≡ take (width r) (drop r.hdot (dots (unscrolled r) memory font frame n))

@@ -52,7 +52,7 @@ framed r frame width rows row =
 
 -- row n, asked of a machine with a buffer of a length
 abbrev pub row_of : Machine → List ℕ → ℕ → ℕ → ℕ → RowAnswer
-row_of m font frame bufferLength n = row_answer m.controller.registers m.memory font frame n bufferLength
+row_of m font frame buffer_length n = row_answer m.controller.registers m.memory font frame n buffer_length
 
 abbrev pub frame_lines : ℕ → Machine → List ℕ → ℕ → List (List ℕ)
 frame_lines r m font frame =

@@ -26,8 +26,8 @@ header l at h =
 
 -- an end is no record, and a bad one is none
 never : (end : Bool) (r : R.Record) → (if end then End else Bad) ≡ Record r → ⊥
-never true r e = let z : ◌≡◌ {A = ℕ} 0 1 = cc in omega arith
-never false r e = let z : ◌≡◌ {A = ℕ} 0 1 = cc in omega arith
+never true r e = cc
+never false r e = cc
 
 -- one that was found has a whole header
 has_header : (l : List ℕ) (at : ℕ) (r : R.Record) → record_at l at ≡ Record r → at + 4 ≤ length l

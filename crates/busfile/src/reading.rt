@@ -1,5 +1,4 @@
-// Thin methods over a struct that holds the lent bytes. The borrow checker covers none that takes or makes one, so each is
-// walked by hand, and leaves its work to a function on a plain slice.
+// Thin methods over a struct that holds the lent bytes: each leaves its work to a function on a plain slice.
 ghost use Rattle.std.specs.Prelude.{◌≡◌};
 ghost use Rattle.busfile.specs.Records.{record_at, part_of};
 
@@ -8,7 +7,8 @@ use crate::{Found, Reader};
 
 impl<'a> Reader<'a> {
     pub fn new(bytes: &'a [u8], at: usize) -> Reader<'a>
-        ensures { (result.bytes ≡ bytes.entry) × (result.at ≡ at) }
+        ensures bytes { result.bytes ≡ bytes.entry }
+        ensures at { result.at ≡ at }
     {
         Reader { bytes, at }
     }
@@ -28,7 +28,7 @@ impl<'a> Reader<'a> {
     }
 }
 
-// What a reader finds, and the payload that it shows. Their parameters are plain, so their callers need no walk.
+// What a reader finds, and the payload that it shows, for callers that hold a slice and no reader.
 pub fn found_at(bytes: &[u8], at: usize) -> Found
     ensures { result ≡ record_at bytes.now at }
 {

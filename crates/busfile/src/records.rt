@@ -23,6 +23,7 @@ fn byte(s: &[u8], at: usize) -> u8
 }
 
 // The number that the first two bytes are.
+#[tactic(auto, unfolding(crate::specs::Records::word_of))]
 pub fn word(s: &[u8]) -> u16
     ensures { result ≡ word_of s.now }
 {
@@ -30,6 +31,7 @@ pub fn word(s: &[u8]) -> u16
 }
 
 // The number that the first four bytes are.
+#[tactic(auto, unfolding(crate::specs::Records::double_word_of))]
 pub fn double_word(s: &[u8]) -> u32
     ensures { result ≡ double_word_of s.now }
 {
@@ -68,8 +70,8 @@ pub fn suffices(part: &[u8], at: usize) -> bool
 
 // Moves the part of a buffer from start to end, as far as the buffer goes, to its front, and answers how long the part is.
 pub fn compact(buffer: &mut [u8], start: usize, end: usize) -> usize
-    ensures value { result ≡ length (part_of buffer.old start end) }
-    ensures buffer_after { buffer.new ≡ compacted buffer.old start end }
+    ensures part_length { result ≡ length (part_of buffer.old start end) }
+    ensures moved_to_front { buffer.new ≡ compacted buffer.old start end }
 {
     let size = part(buffer, start, end).len();
     let mut i: usize = 0;
@@ -81,6 +83,7 @@ pub fn compact(buffer: &mut [u8], start: usize, end: usize) -> usize
     size
 }
 
+#[tactic(auto, unfolding(crate::specs::Records::shape_of))]
 fn shape_of(kind: u16, size: u16) -> Shape
     ensures { result ≡ shape_of kind size }
 {
@@ -113,6 +116,7 @@ fn shape_of(kind: u16, size: u16) -> Shape
     }
 }
 
+#[tactic(auto, unfolding(crate::specs::Records::record_at))]
 pub fn record_at(s: &[u8], at: usize) -> Found
     ensures { result ≡ record_at s.now at }
 {

@@ -31,7 +31,7 @@ fn half_dots() -> [u8; 64]
 }
 
 // The dots of half a byte.
-#[tactic(auto, using(crate::proofs::Tables::all_set, crate::proofs::Tables::length_table, crate::proofs::Halves::half_dots))]
+#[tactic(auto, using(crate::proofs::Tables::length_table))]
 fn spread_half(halves: &[u8], half: u8, out: &mut [u8])
     requires { (halves.now ≡ table 64 half_dot) × (half < 16) × (length out.old ≡ 4) }
     ensures { out.new ≡ table 4 (dot_of 1 (half * 16)) }

@@ -1,4 +1,4 @@
-use Rattle.std.proofs.Common.{◌∙◌, arith}
+use Rattle.std.proofs.Common.{arith}
 use Rattle.dots.proofs.Halves.{both_halves}
 use Rattle.dots.proofs.expanding.spread_eight.Goals as goal
 

@@ -40,9 +40,9 @@ module _ (p n a b : ℕ) (np : n < p) (p8 : p ≤ 8) where
       low_bits (pair / 2 ^ (p - n)) j h ∙ bit (pair / 2 ^ (p - n)) j ∙ ap (λ (x : ℕ). x % 2) (shr-shr pair (p - n) (8 - (j + 1)))
 
   -- the dots of the column itself
-  own-dot : (j : ℕ) → j + n < p → dot_of 1 (scrolled_byte p n a b) j ≡ dot_of 1 a (j + n)
+  own_dot : (j : ℕ) → j + n < p → dot_of 1 (scrolled_byte p n a b) j ≡ dot_of 1 a (j + n)
   unfolding pair
-  own-dot j h =
+  own_dot j h =
       let t : ℕ = p - (j + n + 1) in
       let e : (p - n) + (8 - (j + 1)) ≡ 8 + t = omega arith in
       let f : (8 - p) + t ≡ 8 - (j + n + 1) = omega arith in
@@ -51,9 +51,9 @@ module _ (p n a b : ℕ) (np : n < p) (p8 : p ≤ 8) where
       ∙ ap (λ (x : ℕ). x % 2) (shr-shr a (8 - p) t) ∙ ap (λ (x : ℕ). a / 2 ^ x % 2) f ∙ sym (bit a (j + n))
 
   -- and those of the next one
-  next-dot : (j : ℕ) → j < p → p ≤ j + n → dot_of 1 (scrolled_byte p n a b) j ≡ dot_of 1 b (j + n - p)
+  next_dot : (j : ℕ) → j < p → p ≤ j + n → dot_of 1 (scrolled_byte p n a b) j ≡ dot_of 1 b (j + n - p)
   unfolding pair
-  next-dot j h g =
+  next_dot j h g =
       let i : ℕ = j + n - p in
       let e : (p - n) + (8 - (j + 1)) ≡ 8 - (i + 1) = omega arith in
       let l : i < 8 = omega arith in
@@ -105,13 +105,13 @@ scrolled_dot bits p (suc m) line x np p8 one h =
 
     -- dot x + n stands in x's column, or in the next
     within : j + n < p → dot_of 1 (byte c) j ≡ dot_of 1 (get_or line ((x + n) / p) 0) ((x + n) % p)
-    within l = let e = column_of p c (j + n) (x + n) (omega (arith, whole)) l in own-dot p n _ _ np p8 j l ∙ rw (e.0, e.1)
+    within l = let e = column_of p c (j + n) (x + n) (omega (arith, whole)) l in own_dot p n _ _ np p8 j l ∙ rw (e.0, e.1)
 
     beyond : p ≤ j + n → dot_of 1 (byte c) j ≡ dot_of 1 (get_or line ((x + n) / p) 0) ((x + n) % p)
     beyond g =
         let l : j < p = mod-lt x pos in
         let e = column_of p (c + 1) (j + n - p) (x + n) (omega (arith, whole, column_next c p)) (omega arith) in
-        next-dot p n _ _ np p8 j l g ∙ rw (e.0, e.1)
+        next_dot p n _ _ np p8 j l g ∙ rw (e.0, e.1)
 
 -- the columns shown of a scrolled line
 pub scrolled_columns : (bits p n : ℕ) (line : List ℕ) (shown : ℕ) {moved out : List ℕ} {m : ℕ} → n < p → p ≤ 8 → ((n ≡ 0 → ⊥) → bits ≡ 1) → shown ≤ length line

@@ -1,15 +1,15 @@
 -- Tables: lists by their elements.
-use Prim.Native.Nat.{ℕ, zero, suc, zero-le, ◌+◌, ◌-◌, ◌*◌, ◌/◌, ◌%◌, ◌<◌, ◌≤◌}
+use Prim.Native.Nat.{ℕ, zero, suc, ◌+◌, ◌-◌, ◌*◌, ◌/◌, ◌%◌, ◌<◌, ◌≤◌}
 use mathlib.Core.List.{List, ◌++◌, append-nil}
 use mathlib.Core.Logic.{⊎_elim}
 use mathlib.Core.Path.{◌≡◌, refl, sym, ap, ◌∙◌, subst}
-use native.Mathlib.Nat.{add-zero, zero-add, add-suc, suc-add, le_of_suc-le-suc, not-suc-le-zero, add-sub_of_le, zero-mul, suc-mul, mul-le-mul_right}
+use native.Mathlib.Nat.{add-zero, zero-add, add-suc, suc-add, le_of_suc-le-suc, not-suc-le-zero, add-sub_of_le, suc-mul, mul-le-mul_right}
 use native.Mathlib.Numerals.{add-one}
 use native.Mathlib.Omega.{arith}
 use lib.Arith.{digits_div, digits_mod}
 use lib.ListN.{length, get_or, take, drop, set, drop_of_length-le, get_or-append}
 use lib.Seq.{sets-eq, sets, ext_get_or, get_or-set_same, get_or-set_other, get_or-take, get_or-append-add, length-take-le}
-use borrow.Author.Count.{below_none, below_more}
+use borrow.Author.Count.{below_more}
 use Rattle.choice.proofs.Cases.{lt_or_le}
 use Rattle.choice.proofs.Parts.{part_length}
 use Rattle.dots.specs.Tables.{table, table_from}
@@ -101,29 +101,26 @@ pub record ColumnsDone (f : ℕ → ℕ → ℕ) (n p : ℕ) (l : List ℕ) (c a
   pub size : length l ≡ n * p
   pub each : (k : ℕ) → k < a → get_or l k 0 ≡ f (k / p) (k % p)
 
-pub no_columns : (f : ℕ → ℕ → ℕ) (n p : ℕ) (l : List ℕ) → length l ≡ n * p → ColumnsDone f n p l 0 0
-no_columns f n p l e = record { within = zero-le; end = sym (zero-mul p); size = e; each = below_none _ }
-
 module _ {f : ℕ → ℕ → ℕ} {n p : ℕ} {l : List ℕ} {c a : ℕ} (k : ColumnsDone f n p l c a) where
-  pub next-room : c < n → a + p ≤ length l
-  next-room h = omega (arith, column_room p h)
+  pub next_room : c < n → a + p ≤ length l
+  next_room h = omega (arith, column_room p h)
 
-  pub next-length : c < n → length (take (a + p - a) (drop a l)) ≡ p
-  next-length h = part_length l a p (next-room h)
+  pub next_length : c < n → length (take (a + p - a) (drop a l)) ≡ p
+  next_length h = part_length l a p (next_room h)
 
   -- it is the first p elements of a part
-  pub next-column : {out ys : List ℕ} (zs : List ℕ) {m : ℕ} → c < n → out ≡ take a l ++ (ys ++ zs) → length out ≡ length l → p ≤ m → ys ≡ table m (f c)
+  pub next_column : {out ys : List ℕ} (zs : List ℕ) {m : ℕ} → c < n → out ≡ take a l ++ (ys ++ zs) → length out ≡ length l → p ≤ m → ys ≡ table m (f c)
       → ColumnsDone f n p out (c + 1) (a + p)
-  next-column {out} {ys} zs {m} h e len pm y = record {
+  next_column {out} {ys} zs {m} h e len pm y = record {
     within = omega arith;
     end = ap (λ (x : ℕ). x + p) k.end ∙ column_next c p;
     size = len ∙ k.size;
     each = subst (λ (o : List ℕ). (x : ℕ) → x < a + p → get_or o x 0 ≡ f (x / p) (x % p)) (sym e)
-        (table_part (λ x. f (x / p) (x % p)) (f c) l ys zs a p m (omega (arith, next-room h)) pm y
+        (table_part (λ x. f (x / p) (x % p)) (f c) l ys zs a p m (omega (arith, next_room h)) pm y
         (λ j jp. at_column f c jp ∙ ap (λ (x : ℕ). f ((x + j) / p) ((x + j) % p)) (sym k.end)) k.each);
   }
 
-  pub all-columns : n ≤ c → l ≡ table (n * p) (λ x. f (x / p) (x % p))
-  all-columns h =
+  pub all_columns : n ≤ c → l ≡ table (n * p) (λ x. f (x / p) (x % p))
+  all_columns h =
       let e : c ≡ n = omega arith in
       is_table (n * p) _ l k.size (λ x lt. k.each x (rw (k.end, e) lt))

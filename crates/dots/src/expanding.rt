@@ -23,6 +23,7 @@ const HALVES: [u8; 64] = [
 ];
 
 // The table above as a local: where it is named in a loop it is built anew for each use.
+#[tactic(auto, unfolding(crate::specs::Tables::table, crate::specs::Expanded::half_dot, crate::specs::Bytes::dot_of))]
 fn half_dots() -> [u8; 64]
     ensures { result ≡ table 64 half_dot }
 {
@@ -30,6 +31,7 @@ fn half_dots() -> [u8; 64]
 }
 
 // The dots of half a byte.
+#[tactic(auto, using(crate::proofs::Tables::length_table))]
 fn spread_half(halves: &[u8], half: u8, out: &mut [u8])
     requires { (halves.now ≡ table 64 half_dot) × (half < 16) × (length out.old ≡ 4) }
     ensures { out.new ≡ table 4 (dot_of 1 (half * 16)) }
@@ -54,6 +56,7 @@ fn spread_eight(halves: &[u8], b: u8, out: &mut [u8])
     spread_half(halves, b % 16, &mut out[4..8]);
 }
 
+#[tactic(auto, unfolding(crate::specs::Tables::table, crate::specs::Bytes::dot_of))]
 fn spread_pairs(b: u8, out: &mut [u8])
     requires { length out.old ≡ 4 }
     ensures { out.new ≡ table 4 (dot_of 2 b) }
@@ -64,6 +67,7 @@ fn spread_pairs(b: u8, out: &mut [u8])
     out[3] = b % 4;
 }
 
+#[tactic(auto, unfolding(crate::specs::Tables::table, crate::specs::Bytes::dot_of))]
 fn spread_nibbles(b: u8, out: &mut [u8])
     requires { length out.old ≡ 2 }
     ensures { out.new ≡ table 2 (dot_of 4 b) }

@@ -5,6 +5,7 @@ ghost use Rattle.dots.specs.Mixing.{first_of};
 ghost use Rattle.dots.specs.MixedBytes.{first_pairs, first_nibbles, mix_byte, third_mix};
 
 // The first that is not 0.
+#[tactic(auto, unfolding(crate::specs::Mixing::first_of))]
 fn first_of(a: u8, b: u8) -> u8
     ensures { result ≡ first_of a b 0 }
 {
@@ -12,6 +13,7 @@ fn first_of(a: u8, b: u8) -> u8
 }
 
 // The first that is not 0 of each pair of bits. `% 4` changes nothing: by it each term is seen to fit, and so the sum.
+#[tactic(auto, unfolding(crate::specs::MixedBytes::first_pairs))]
 fn first_pairs(a: u8, b: u8) -> u8
     ensures { result ≡ first_pairs a b }
 {
@@ -22,6 +24,7 @@ fn first_pairs(a: u8, b: u8) -> u8
 }
 
 // The first that is not 0 of each half of the bytes, `% 16` as `% 4` above.
+#[tactic(auto, unfolding(crate::specs::MixedBytes::first_nibbles))]
 fn first_nibbles(a: u8, b: u8) -> u8
     ensures { result ≡ first_nibbles a b }
 {
@@ -29,6 +32,7 @@ fn first_nibbles(a: u8, b: u8) -> u8
 }
 
 // At one bit a dot the first that is not 0 is the OR.
+#[tactic(auto, unfolding(crate::specs::MixedBytes::mix_byte, crate::specs::MixedBytes::first_byte))]
 fn mix_byte(mx: u8, grey: u8, a: u8, b: u8) -> u8
     ensures { result ≡ mix_byte mx grey a b }
 {
@@ -64,6 +68,7 @@ pub fn mix_bytes(mx: u8, grey: u8, line: &mut [u8], layer: &[u8])
 }
 
 // How layer 3 is mixed into the mix of layers 1 and 2.
+#[tactic(auto, unfolding(crate::specs::MixedBytes::third_mix))]
 pub fn third_mix(mx: u8) -> u8
     ensures { result ≡ third_mix mx }
 {

@@ -8,6 +8,7 @@ ghost use Rattle.dots.specs.Scrolled.{scrolled_byte, scrolled};
 use crate::expanding::expand;
 
 // Eight dots from dot n of a on, which go on with those of b after the first `per`.
+#[tactic(auto, unfolding(crate::specs::Scrolled::scrolled_byte))]
 fn scrolled_byte(per: usize, n: usize, a: u8, b: u8) -> u8
     requires { (n < per) × (per ≤ 8) }
     ensures { result ≡ scrolled_byte per n a b }
@@ -17,6 +18,7 @@ fn scrolled_byte(per: usize, n: usize, a: u8, b: u8) -> u8
 }
 
 // Scrolled by 0 dots a line stands, in grey too. What comes in at the last column's end is nothing; that column is not shown.
+#[tactic(auto, unfolding(crate::specs::Scrolled::scrolled))]
 fn scroll(per: usize, n: usize, line: &mut [u8])
     requires { (n < per) × (per ≤ 8) }
     ensures { line.new ≡ scrolled per n line.old }

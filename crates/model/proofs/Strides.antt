@@ -33,11 +33,9 @@ adjacent done address (suc n) memory (b ∷ bs) full e =
     further : (x : ℕ) → x + suc n ≡ suc x + n
     further x = omega arith
 
--- a part put back, with a copy over it
-pub put_back : (l bs : List ℕ) {part : List ℕ} (at n : ℕ) → length bs ≡ n → at + n ≤ length l → part ≡ take (length bs) bs ++ drop (length bs) (take (at + n - at) (drop at l))
-    → take at l ++ (part ++ drop (at + n - at) (drop at l)) ≡ sets l at bs
-put_back l bs at n e h p =
-    rw (p, copied bs _ (part_length l at n h ∙ sym e), add-sub_cancel_left, drop-drop, sets-eq bs l at (omega arith), append_assoc, e)
+-- a part put back, with bytes copied over it
+pub put_back : (l bs : List ℕ) (at n : ℕ) → length bs ≡ n → at + n ≤ length l → take at l ++ (bs ++ drop (at + n - at) (drop at l)) ≡ sets l at bs
+put_back l bs at n e h = rw (add-sub_cancel_left, drop-drop, sets-eq bs l at (omega arith), append_assoc, e)
 
 pub in_room : (room step all count : ℕ) → 0 < step → count ≡ min all (room / step + 1) → InRoom room step all count
 in_room room step all count pos e =

@@ -56,7 +56,7 @@ fn store_adjacent(memory: &mut [u8], bytes: &[u8], address: u16) -> Stored
     }
     let n = smaller(bytes.len(), memory.len() - at);
     let end = at + n;
-    bytes::copy(&bytes[..n], &mut memory[at..end]);
+    memory[at..end].copy_from_slice(&bytes[..n]);
     Stored {
         address: end as u16,
         length: n,

@@ -1,6 +1,6 @@
 -- Which commands a list has, whatever their order.
 use Rattle.std.proofs.Common.{◌≡◌, ◌<◌, Bool, true, false, ◌||◌, List, [], ◌∷◌, refl, ◌∙◌, arith, eq-eqb}
-use mathlib.Core.Bool.{or-true}
+use Rattle.std.proofs.Math.Bool.{or-true}
 use Rattle.registers.specs.declared.Command.{Command}
 use Rattle.registers.specs.Commands.{code, ◌is◌}
 use Rattle.model.specs.Refresh.{All, occurrences, without}

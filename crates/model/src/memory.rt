@@ -147,7 +147,7 @@ impl Controller {
     // Bytes stored from the cursor on while it is inside memory.
     pub(crate) fn write_memory_run(mut self, memory: &mut [u8], bytes: &[u8]) -> WriteRun
         requires memory_len { length memory.old ≡ memory_size }
-        requires is_value { (served self is Mwrite) ≡ true }
+        requires serves_mwrite { (served self is Mwrite) ≡ true }
         ensures { write_run_outcome result memory.new ≡ run_outcome (machine self memory.old) bytes.now }
     {
         let cursor = self.registers.cursor;

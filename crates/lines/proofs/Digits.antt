@@ -18,7 +18,7 @@ pub digit_code : (d : ℕ) → d < 16 → digit d ≡ code d
 unfolding digit
 digit_code d h = eqb→eq (digit d) (code d) (all_below_lem (λ x. eqb (digit x) (code x)) 16 tt d h)
 
--- any bound will do
+-- the digits are the same under any bound
 any_bound : (j k n : ℕ) → n < j → n < k → decimal_below j n ≡ decimal_below k n
 unfolding decimal_below
 any_bound zero k n h l = absurd (not-suc-le-zero h)

@@ -36,6 +36,7 @@ pub fn flush(rt: &impl Print, o: Output, out: &[u8]) -> Output
 }
 
 // Room for any line: the buffer is written out where it has less.
+#[tactic(auto, unfolding(crate::specs::Output::used_before))]
 pub fn room(rt: &impl Print, o: Output, out: &[u8]) -> Output
     ensures used_value { result.used ≡ used_before (buffer out.now o.used) }
     ensures open_after { OpenAfter o.open (is_full (buffer out.now o.used)) result.open }

@@ -1,5 +1,5 @@
 // Buffered lines on standard output. Once a write fails nothing more is written.
-ghost use Rattle.std.specs.Prelude.{◌≡◌, ◌≤◌, min, true, [], ◌∷◌, length};
+ghost use Rattle.std.specs.Prelude.{◌≡◌, ◌≤◌, min, true, [], ◌∷◌, length, take};
 ghost use Rattle.registers.specs.Refusals.{reply, read_reply};
 ghost use Rattle.lines.specs.Lines.{line_text};
 ghost use Rattle.session.specs.Output.{buffer, is_full, used_before, OpenAfter, Prints};
@@ -15,6 +15,7 @@ const LONGEST_LINE: usize = 641;
 // A number, or a slice's length where that is less.
 pub fn at_most(n: usize, s: &[u8]) -> usize
     ensures in_bounds { result ≤ length s.now }
+    ensures prefix_len { result ≡ length (take result s.now) }
     ensures value { result ≡ min n (length s.now) }
 {
     if n < s.len() {

@@ -1,5 +1,5 @@
 -- What prints the rest of the rows from here prints all of them from the start.
-use Rattle.std.proofs.Common.{◌≡◌, ℕ, ◌-◌, List, length}
+use Rattle.std.proofs.Common.{ℕ, ◌-◌, List, length}
 use Rattle.model.specs.Machine.{machine}
 use Rattle.row.specs.Rows.{RowAnswer}
 use Rattle.session.specs.declared.Output.{Output}

@@ -1,18 +1,13 @@
-use Rattle.std.proofs.Common.{◌+◌, ◌≤◌, List, ℕ, map, length, get_or, drop, ap, arith, length-drop, drop_of_length-le}
+use Rattle.std.proofs.Common.{◌+◌, List, ℕ, map, get_or, ap, arith, drop_of_length-le}
 use Rattle.choice.proofs.Parts.{part_to_end}
 use Rattle.model.specs.Calls.{write}
-use Rattle.model.specs.WriteRun.{RunOutcome}
-use Rattle.model.proofs.WriteRuns.{run_within}
 use Rattle.session.specs.declared.Session.{Session}
 use Rattle.session.specs.Carrying.{live}
-use Rattle.session.proofs.Calls.{one_call, data_more, run_first, no_calls}
+use Rattle.session.proofs.Calls.{one_call, data_more, run_first, run_in_data, no_calls}
 use Rattle.session.proofs.run.run_data.Goals as goal
 
 pub overflow_add-i : goal.overflow_add-i
-overflow_add-i g c =
-    let bs = drop 1 c.args.payload.now in
-    let taken : c.write_run-run.result.length ≤ length bs = rw (ap (λ (o : RunOutcome). o.length) (rw part_to_end at c.write_run-run.ensures)) (run_within _ bs) in
-    omega (arith, length-drop 1 c.args.payload.now)
+overflow_add-i g c = omega (arith, run_in_data c.args.payload.now _ (rw part_to_end at c.write_run-run.ensures))
 
 pub loop-i-preserved : goal.loop-i-preserved
 loop-i-preserved g c =

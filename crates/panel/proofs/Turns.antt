@@ -35,8 +35,8 @@ module _ (font input input' memory memory' out out' file : List ℕ) (run r : Ru
       (subst (λ (l : List ℕ). OpenAfter r.step.session.output.open (flushes (buffer out r.step.session.output.used) (step_lines font l (progress r.step memory out))) s.session.output.open)
       part opened)
 
-  pub turn-done : (start : Progress) (k : ℕ) → Done font start k run memory out input → Done font start (suc k) (record { step = s; part = r.part }) memory' out' input'
-  turn-done start k h =
+  pub turn_done : (start : Progress) (k : ℕ) → Done font start k run memory out input → Done font start (suc k) (record { step = s; part = r.part }) memory' out' input'
+  turn_done start k h =
       subst (λ (p : Progress). SoFar font start (suc k) p s.session.output.open (at_hand r input') r.part.ended) (sym stepped)
       (turn_more font start k (progress run.step memory out) (at_hand run input) (at_hand r input') r.step.at run.step.session.output.open s.session.output.open
       run.part.ended r.part.ended h filled.reads reopened)

@@ -60,14 +60,14 @@ pub record Edge : Type 0 where
 abbrev pub edge : List BusCall → BusCall → Observation → ℕ → Edge
 edge before last observation expected = record { before = before; last = last; observation = observation; expected = expected }
 
-abbrev pub right_at7_fff : List BusCall
-right_at7_fff = sending 0x4C [] ++ sending 0x46 (0xFF ∷ 0x7F ∷ []) ++ sending 0x42 []
+abbrev pub right_at_7fff : List BusCall
+right_at_7fff = sending 0x4C [] ++ sending 0x46 (0xFF ∷ 0x7F ∷ []) ++ sending 0x42 []
 
-abbrev pub left_at0000 : List BusCall
-left_at0000 = sending 0x4D [] ++ sending 0x46 (0 ∷ 0 ∷ []) ++ sending 0x42 []
+abbrev pub left_at_0000 : List BusCall
+left_at_0000 = sending 0x4D [] ++ sending 0x46 (0 ∷ 0 ∷ []) ++ sending 0x42 []
 
-abbrev pub up_at0010 : List BusCall
-up_at0010 = sending 0x40 (0x10 ∷ 0 ∷ 0 ∷ 0 ∷ 0 ∷ 0 ∷ 0x28 ∷ 0 ∷ []) ++ sending 0x4E [] ++ sending 0x46 (0x10 ∷ 0 ∷ []) ++ sending 0x42 []
+abbrev pub up_at_0010 : List BusCall
+up_at_0010 = sending 0x40 (0x10 ∷ 0 ∷ 0 ∷ 0 ∷ 0 ∷ 0 ∷ 0x28 ∷ 0 ∷ []) ++ sending 0x4E [] ++ sending 0x46 (0x10 ∷ 0 ∷ []) ++ sending 0x42 []
 
 -- [FX] 8 and [FY] 8, with C/R and TC/R
 abbrev pub columns : ℕ → ℕ → List BusCall
@@ -92,17 +92,17 @@ edges =
     ∷ edge (sending 0x5D (0 ∷ [])) (write 1) refusal 0
     ∷ edge (sending 0x5D (0 ∷ [])) (write 0) refusal 4
     -- write right at 7FFFh: stored, cursor 8000h
-    ∷ edge right_at7_fff (write 0xA5) refusal 0
-    ∷ edge right_at7_fff (write 0xA5) (byte 0x7FFF) 0xA5
-    ∷ edge right_at7_fff (write 0xA5) cursor 0x8000
+    ∷ edge right_at_7fff (write 0xA5) refusal 0
+    ∷ edge right_at_7fff (write 0xA5) (byte 0x7FFF) 0xA5
+    ∷ edge right_at_7fff (write 0xA5) cursor 0x8000
     -- the next: 7, cursor 8001h
-    ∷ edge (right_at7_fff ++ (write 0xA5 ∷ [])) (write 0x5A) refusal 7
-    ∷ edge (right_at7_fff ++ (write 0xA5 ∷ [])) (write 0x5A) (byte 0x7FFF) 0xA5
-    ∷ edge (right_at7_fff ++ (write 0xA5 ∷ [])) (write 0x5A) cursor 0x8001
+    ∷ edge (right_at_7fff ++ (write 0xA5 ∷ [])) (write 0x5A) refusal 7
+    ∷ edge (right_at_7fff ++ (write 0xA5 ∷ [])) (write 0x5A) (byte 0x7FFF) 0xA5
+    ∷ edge (right_at_7fff ++ (write 0xA5 ∷ [])) (write 0x5A) cursor 0x8001
     -- write left at 0000h: cursor FFFFh
-    ∷ edge left_at0000 (write 0xA5) cursor 0xFFFF
+    ∷ edge left_at_0000 (write 0xA5) cursor 0xFFFF
     -- up from 0010h, AP 0028h: cursor FFE8h
-    ∷ edge up_at0010 (write 0xA5) cursor 0xFFE8
+    ∷ edge up_at_0010 (write 0xA5) cursor 0xFFE8
     -- C/R 27h: TC/R 2Bh passes, 2Ah gets 13
     ∷ edge (columns 0x27 0x2B) (write 0) (row0 320) 0
     ∷ edge (columns 0x27 0x2A) (write 0) (row0 320) 13

@@ -39,28 +39,28 @@ module _ (m : Machine) (font : List ℕ) (frame : ℕ) where
   answered n out a e = ap (λ (o : RowOutcome). o.refusal) e
 
   -- a frame whose first row is accepted, its rows in a buffer that stays as long as it was
-  pub accepted-frame : (r rows size : ℕ) {still : ℕ} {o p q : Output} {a b c : List ℕ} → still ≡ size → (row_of m font frame size 0).refusal ≡ 0
+  pub accepted_frame : (r rows size : ℕ) {still : ℕ} {o p q : Output} {a b c : List ℕ} → still ≡ size → (row_of m font frame size 0).refusal ≡ 0
       → Prints (frame_line r frame still rows ∷ []) o a p b → Prints (row_lines (row_of m font frame still) 0 rows) p b q c
       → Prints (framed r frame size rows (row_of m font frame size)) o a q c
-  accepted-frame r rows size {still} {o} {p} {q} {a} {b} {c} same first e f =
+  accepted_frame r rows size {still} {o} {p} {q} {a} {b} {c} same first e f =
       rw first
       (prints_both (frame_line r frame size rows ∷ []) (row_lines (row_of m font frame size) 0 rows)
       (subst (λ (k : ℕ). Prints (frame_line r frame k rows ∷ []) o a p b) same e)
       (subst (λ (k : ℕ). Prints (row_lines (row_of m font frame k) 0 rows) p b q c) same f))
 
   -- each row of a frame whose first row is accepted leaves its dots
-  pub leaves-dots : (n size : ℕ) (out : List ℕ) (a : Answer) {left : List ℕ} → (row_of m font frame size 0).refusal ≡ 0
+  pub leaves_dots : (n size : ℕ) (out : List ℕ) (a : Answer) {left : List ℕ} → (row_of m font frame size 0).refusal ≡ 0
       → n < (frame_size m.controller.registers).rows.0 → length out ≡ size
       → composed_outcome a left ≡ row_outcome m.controller.registers m.memory font frame n out → left ≡ (row_of m font frame size n).dots
   unfolding row_answer row_outcome
-  leaves-dots n size out a first below same e =
+  leaves_dots n size out a first below same e =
       ap (λ (o : RowOutcome). o.buffer) e ∙ rw (same, other_row (in_layout m.controller.registers) (length m.memory) (length font) 0 n size first below)
 
   -- a frame in a buffer of at most 640 dots
-  pub in-640 : (r : ℕ) {size : ℕ} {rows : Count} → size ≡ min (frame_size m.controller.registers).width 640 → rows ≡ (frame_size m.controller.registers).rows
+  pub in_640 : (r : ℕ) {size : ℕ} {rows : Count} → size ≡ min (frame_size m.controller.registers).width 640 → rows ≡ (frame_size m.controller.registers).rows
       → framed r frame size rows.0 (row_of m font frame size) ≡ frame_lines r m font frame
   unfolding row_answer
-  in-640 r {size} {rows} e same = ⊎_elim wide narrow (lt_or_le 640 full)
+  in_640 r {size} {rows} e same = ⊎_elim wide narrow (lt_or_le 640 full)
     where
       full : ℕ
       full = (frame_size m.controller.registers).width

@@ -27,7 +27,7 @@ found_same r m font before part after at same Bad e = refl
 found_same r m font before part after at same (Record x) e = rw (same.payload x e)
 
 pub steps_in_parts : StepsInParts
-steps_in_parts font before part after p h = (go p.more, go-lines p.more)
+steps_in_parts font before part after p h = (go p.more, go_lines p.more)
   where
     file : List ℕ
     file = before ++ (part ++ after)
@@ -43,10 +43,10 @@ steps_in_parts font before part after p h = (go p.more, go-lines p.more)
         ∙ ap (λ (f : Found). after_found font file (length before + p.at) p.good f p.state) same.found
     go false = refl
 
-    go-lines : (more : Bool)
+    go_lines : (more : Bool)
         → (if more then found_lines (following p.good) p.state.machine font part (record_at part p.at) else [])
         ≡ (if more then found_lines (following p.good) p.state.machine font file (record_at file (length before + p.at)) else [])
-    go-lines true =
+    go_lines true =
         found_same (following p.good) p.state.machine font before part after p.at same (record_at part p.at) refl
         ∙ ap (found_lines (following p.good) p.state.machine font file) same.found
-    go-lines false = refl
+    go_lines false = refl

@@ -35,24 +35,24 @@ number_short name n h below = line-length name (n ∷ []) (ascii "\n") (below, t
 
 module _ (font file : List ℕ) (bytes : All Byte file) where
   -- of what was found, where the lines of the rest are short from any machine and place on
-  found-short : (m : Machine) (at good : ℕ) (f : Found) → record_at file at ≡ f → good < 2 ^ 64 → LfByte m → (rest : Machine → ℕ → List (List ℕ))
+  found_short : (m : Machine) (at good : ℕ) (f : Found) → record_at file at ≡ f → good < 2 ^ 64 → LfByte m → (rest : Machine → ℕ → List (List ℕ))
       → ((m : Machine) (at : ℕ) → LfByte m → All Short (rest m at)) → All Short (found_lines (following good) m font file f ++ later_lines file m good f rest)
-  found-short m at good End e h l rest short = (number_short (ascii "end") good (omega arith) h, tt)
-  found-short m at good Bad e h l rest short =
+  found_short m at good End e h l rest short = (number_short (ascii "end") good (omega arith) h, tt)
+  found_short m at good Bad e h l rest short =
       (number_short (ascii "bad") (following good) (omega arith) (following_below good), (number_short (ascii "end") good (omega arith) h, tt))
-  found-short m at good (Record r) e h l rest short =
+  found_short m at good (Record r) e h l rest short =
       let payload = part_of file r.start r.end in
-      let payload-bytes = part_bytes file r.start r.end bytes in
+      let payload_bytes = part_bytes file r.start r.end bytes in
       let size = length-take (r.end - r.start) (drop r.start file) in
       both_short (record_lines (following good) m font r.kind payload) (rest (after m (record_calls r.kind payload)) r.end)
-      (lines_short (following good) m font r.kind payload (following_below good) l payload-bytes (omega (arith, size, record_ends file at r e)))
-      (short (after m (record_calls r.kind payload)) r.end (record_keeps m r.kind payload payload-bytes l))
+      (lines_short (following good) m font r.kind payload (following_below good) l payload_bytes (omega (arith, size, record_ends file at r e)))
+      (short (after m (record_calls r.kind payload)) r.end (record_keeps m r.kind payload payload_bytes l))
 
   -- of a file from a place on
   all_short : (k : ℕ) (m : Machine) (at good : ℕ) → good < 2 ^ 64 → LfByte m → All Short (lines_from k font file m at good)
   all_short zero m at good h l = tt
   all_short (suc k) m at good h l =
-      found-short m at good (record_at file at) refl h l (λ m' at'. lines_from k font file m' at' (following good))
+      found_short m at good (record_at file at) refl h l (λ m' at'. lines_from k font file m' at' (following good))
       (λ m' at' l'. all_short k m' at' (following good) (following_below good) l')
 
 -- Steps print the lines
@@ -76,22 +76,22 @@ module _ (font file : List ℕ) where
       (printed_all s.output (lines_from k font file s.machine at good))
 
   -- what was found is printed and leaves fewer steps, or stops
-  found-ends : (k : ℕ) (s : State) (at good : ℕ) (f : Found) → record_at file at ≡ f → length file - at < suc k
+  found_ends : (k : ℕ) (s : State) (at good : ℕ) (f : Found) → record_at file at ≡ f → length file - at < suc k
       → ((s : State) (at : ℕ) → length file - at < k → EndsFrom k s at (following good))
       → Ends (steps k font file (after_found font file at good f s))
       (printed_all s.output
       (found_lines (following good) s.machine font file f ++ later_lines file s.machine good f (λ m' at'. lines_from k font file m' at' (following good))))
-  found-ends k s at good End e h rest = stopped k s at good
-  found-ends k s at good Bad e h rest = stopped k (after_found font file at good Bad s).state at good
-  found-ends k s at good (Record r) e h rest =
+  found_ends k s at good End e h rest = stopped k s at good
+  found_ends k s at good Bad e h rest = stopped k (after_found font file at good Bad s).state at good
+  found_ends k s at good (Record r) e h rest =
       let done = after_record (following good) font r.kind (part_of file r.start r.end) s in
       rw printed_both (rest done r.end (omega (arith, record_ends file at r e)))
 
   -- each record is longer than nothing: as many steps as bytes are left, and one more, are enough
-  steps-end : (k : ℕ) (s : State) (at good : ℕ) → length file - at < k → EndsFrom k s at good
-  steps-end zero s at good h = absurd (omega arith)
-  steps-end (suc k) s at good h =
-      found-ends k s at good (record_at file at) refl h (λ s' at' h'. steps-end k s' at' (following good) h')
+  steps_end : (k : ℕ) (s : State) (at good : ℕ) → length file - at < k → EndsFrom k s at good
+  steps_end zero s at good h = absurd (omega arith)
+  steps_end (suc k) s at good h =
+      found_ends k s at good (record_at file at) refl h (λ s' at' h'. steps_end k s' at' (following good) h')
 
 -- nothing is lost from an empty buffer on
 from_empty : (out : List ℕ) (lines : List (List ℕ)) (b : Buffer) → longest_line ≤ length out → All Short lines → b ≡ printed_all (buffer out 0) lines
@@ -101,9 +101,9 @@ from_empty out lines b room short e = rw e (nothing_lost (buffer out 0) lines ro
 -- Any number of steps
 
 module _ (font file : List ℕ) where
-  steps-both : (k j : ℕ) (p : Progress) → steps (k + j) font file p ≡ steps j font file (steps k font file p)
-  steps-both zero j p = rw zero-add
-  steps-both (suc k) j p = rw suc-add (steps-both k j (next_step font file p))
+  steps_both : (k j : ℕ) (p : Progress) → steps (k + j) font file p ≡ steps j font file (steps k font file p)
+  steps_both zero j p = rw zero-add
+  steps_both (suc k) j p = rw suc-add (steps_both k j (next_step font file p))
 
   -- a progress that stopped stays
   stays : (k : ℕ) (p : Progress) → p.more ≡ false → steps k font file p ≡ p
@@ -116,13 +116,13 @@ module _ (font file : List ℕ) where
   same_stop : (k j : ℕ) (p : Progress) → (steps k font file p).more ≡ false → (steps j font file p).more ≡ false → steps k font file p ≡ steps j font file p
   same_stop k j p e f =
       let turned : k + j ≡ j + k = omega arith in
-      sym (steps-both k j p ∙ stays j (steps k font file p) e) ∙ ap (λ (n : ℕ). steps n font file p) turned
-      ∙ steps-both j k p ∙ stays k (steps j font file p) f
+      sym (steps_both k j p ∙ stays j (steps k font file p) e) ∙ ap (λ (n : ℕ). steps n font file p) turned
+      ∙ steps_both j k p ∙ stays k (steps j font file p) f
 
 pub program_prints : ProgramPrints
 program_prints font file out bytes room =
     let start = start_of (replicate memory_size 0) out in
-    let done = steps-end font file (length file + 1) start.state 0 0 (omega arith) in
+    let done = steps_end font file (length file + 1) start.state 0 0 (omega arith) in
     let short = all_short font file bytes (length file + 1) start.state.machine 0 0 (omega arith) (omega arith) in
     let all : PrintsAll font file out (steps (length file + 1) font file start) =
     record { prints = done.prints; whole = from_empty out (program_lines font file) _ room short done.prints } in

@@ -55,7 +55,7 @@ pub turn_more : (font : List ℕ) (start : Progress) (k : ℕ) (p : Progress) (p
     → OpenAfter takes (flushes p.state.output (step_lines font part' (placed at' p))) takes'
     → SoFar font start (suc k) (next_step font part' (placed at' p)) takes' part' ended'
 turn_more font start k p part part' at' takes takes' ended ended' done r opened =
-    record { before = past; reached = λ after last. one_more after last; stays = λ after last. opened-more after last }
+    record { before = past; reached = λ after last. one_more after last; stays = λ after last. opened_more after last }
   where
     past : List ℕ
     past = done.before ++ r.past
@@ -85,9 +85,9 @@ turn_more font start k p part part' at' takes takes' ended ended' done r opened 
         steps_last k font (file after) start ∙ ap (next_step font (file after)) (reached after last)
         ∙ sym (steps_in_parts font past part' after (placed at' p) (enough after last)).0
 
-    opened-more : (after : List ℕ) → (ended' ≡ true → after ≡ [])
+    opened_more : (after : List ℕ) → (ended' ≡ true → after ≡ [])
         → OpenAfter true (flushes start.state.output (steps_lines (suc k) font (file after) start)) takes'
-    opened-more after last =
+    opened_more after last =
         let was : OpenAfter true (flushes start.state.output (steps_lines k font (file after) start)) takes =
         subst (λ (l : List ℕ). OpenAfter true (flushes start.state.output (steps_lines k font l start)) takes) (same after)
         (done.stays (r.more ++ after) (none_after after last)) in

@@ -5,7 +5,7 @@ use Rattle.registers.specs.Refusals.{reply}
 use Rattle.row.specs.Rows.{composed_outcome, row_outcome}
 use Rattle.model.specs.Machine.{Machine, machine}
 use Rattle.session.specs.Records.{row_of}
-use Rattle.session.proofs.FrameLines.{refused_lines, accepted-frame, answered}
+use Rattle.session.proofs.FrameLines.{refused_lines, accepted_frame, answered}
 use Rattle.session.proofs.frames.show_frame.Goals as goal
 
 -- the first row, where it is accepted
@@ -33,6 +33,6 @@ pub returns-in-Accepted : goal.returns-in-Accepted
 returns-in-Accepted g c =
     let a = c.args in
     let m = machine a.s.controller a.memory.now in
-    accepted-frame m a.font.now a.frame.number a.frame.«record» a.frame.rows.0 (length a.row.now) c.row-answer.auto.out
+    accepted_frame m a.font.now a.frame.number a.frame.«record» a.frame.rows.0 (length a.row.now) c.row-answer.auto.out
     (first_row m a.font.now a.frame.number a.row.now c.row-answer.result c.in-Accepted.is c.row-answer.ensures)
     c.print_line-o.ensures c.show_rows.ensures

@@ -2,7 +2,7 @@ use Rattle.std.proofs.Common.{◌+◌, List, ℕ, map, get_or, ap, arith, drop_o
 use Rattle.choice.proofs.Parts.{part_to_end}
 use Rattle.model.specs.Calls.{write}
 use Rattle.session.specs.declared.Session.{Session}
-use Rattle.session.specs.Carrying.{live}
+use Rattle.session.specs.Carrying.{Live, live}
 use Rattle.session.proofs.Calls.{one_call, data_more, run_first, run_in_data, no_calls}
 use Rattle.session.proofs.run.run_data.Goals as goal
 
@@ -22,5 +22,7 @@ loop-i-preserved g c =
 pub returns : goal.returns
 returns g c =
     let a = c.args in
-    run_first a.«record» a.payload.now (live a.s a.memory.now a.out.now) (rw part_to_end at c.write_run-run.ensures)
-    (c.loop-i.invariant _ (no_calls _ _ _ _ (ap (λ (bs : List ℕ). map write bs) (drop_of_length-le _ c.loop-i-test.false))))
+    let l = c.loop-i in
+    let left : Live = live (record { controller = l.written.controller; output = l.o }) l.memory l.out in
+    run_first a.«record» a.payload.now (live a.s a.memory.now a.out.now) {u = left} (rw part_to_end at c.write_run-run.ensures)
+    (l.invariant left (no_calls _ _ _ _ (ap (λ (bs : List ℕ). map write bs) (drop_of_length-le _ c.loop-i-test.false))))

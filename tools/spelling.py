@@ -10,8 +10,10 @@ DEFINES = re.compile(r"^(?:(?:abbrev|unfoldable|pub)\s+)*([^\s:(){}]+)(?:\s+[({]
 WORD = r"[A-Za-z0-9_']"
 # A law about an append or a length joins the names of two functions.
 JOINED = ("-append", "-length")
-# A definition and the lemma about it would be one name: the lemma takes the library's ending.
+# The library's word for getD; and where a definition and the lemma about it would be one name, the library's ending for the lemma.
 CHOSEN = {
+    "getD-from": "get_or-from",
+    "getD-table": "get_or-table",
     "all-below": "all_below_lem",
     "byte-at": "byte_at_lem",
     "decimal-digits": "decimal_digits_lem",

@@ -11,13 +11,13 @@ use Rattle.choice.proofs.Below.{below4}
 use Rattle.dots.specs.Tables.{table}
 use Rattle.dots.specs.Bytes.{dot_of}
 use Rattle.dots.specs.Expanded.{half_dot}
-use Rattle.dots.proofs.Tables.{length_table, getD_table, is_table, table_part}
+use Rattle.dots.proofs.Tables.{length_table, get_or-table, is_table, table_part}
 
 -- an entry of the table of halves
 half_dot_lem : (halves : List ℕ) (h : ℕ) → halves ≡ table 64 half_dot → h < 16 → (k : ℕ) → k < 4 → get_or halves (h * 4 + k) 0 ≡ dot_of 1 (h * 16) k
 unfolding half_dot
 half_dot_lem halves h e hl k kl =
-    ap (λ (l : List ℕ). get_or l (h * 4 + k) 0) e ∙ getD_table 64 half_dot (h * 4 + k) (omega arith) ∙ rw (digits_div h kl, digits_mod h kl)
+    ap (λ (l : List ℕ). get_or l (h * 4 + k) 0) e ∙ get_or-table 64 half_dot (h * 4 + k) (omega arith) ∙ rw (digits_div h kl, digits_mod h kl)
 
 pub half_dots : (halves : List ℕ) (h : ℕ) → halves ≡ table 64 half_dot → h < 16
     → get_or halves (h * 4) 0 ∷ get_or halves (h * 4 + 1) 0 ∷ get_or halves (h * 4 + 2) 0 ∷ get_or halves (h * 4 + 3) 0 ∷ [] ≡ table 4 (dot_of 1 (h * 16))

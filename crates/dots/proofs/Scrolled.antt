@@ -15,7 +15,7 @@ use Rattle.dots.specs.Tables.{table}
 use Rattle.dots.specs.Bytes.{dot_of}
 use Rattle.dots.specs.Scrolled.{scrolled_byte, scrolled}
 use Rattle.dots.specs.Expanded.{expanded_dot, DotsFit}
-use Rattle.dots.proofs.Tables.{getD_table, same_table, column_next}
+use Rattle.dots.proofs.Tables.{get_or-table, same_table, column_next}
 
 -- dot j at one bit is bit 7 - j
 bit : (m j : ℕ) → dot_of 1 m j ≡ m / 2 ^ (8 - (j + 1)) % 2
@@ -77,7 +77,7 @@ scrolled_dot : (bits p n : ℕ) (line : List ℕ) (x : ℕ) → n < p → p ≤ 
 unfolding expanded_dot scrolled
 scrolled_dot bits p zero line x np p8 one h = rw add-zero
 scrolled_dot bits p (suc m) line x np p8 one h =
-    rw (ne_eqb n 0 moved, one moved, getD_table (length line) byte c inside) (⊎_elim within beyond (lt_or_le (j + n) p))
+    rw (ne_eqb n 0 moved, one moved, get_or-table (length line) byte c inside) (⊎_elim within beyond (lt_or_le (j + n) p))
   where
     n : ℕ
     n = suc m

@@ -20,32 +20,32 @@ length_from : (n i : ℕ) (f : ℕ → ℕ) → length (table_from i n f) ≡ n
 length_from zero i f = refl
 length_from (suc n) i f = ap suc (length_from n (suc i) f)
 
-getD_from : (n i : ℕ) (f : ℕ → ℕ) (k : ℕ) → k < n → get_or (table_from i n f) k 0 ≡ f (i + k)
-getD_from zero i f k h = absurd (not-suc-le-zero h)
-getD_from (suc n) i f zero h = ap f (sym (add-zero i))
-getD_from (suc n) i f (suc k) h = getD_from n (suc i) f k (le_of_suc-le-suc h) ∙ ap f (suc-add i k ∙ sym (add-suc i k))
+get_or-from : (n i : ℕ) (f : ℕ → ℕ) (k : ℕ) → k < n → get_or (table_from i n f) k 0 ≡ f (i + k)
+get_or-from zero i f k h = absurd (not-suc-le-zero h)
+get_or-from (suc n) i f zero h = ap f (sym (add-zero i))
+get_or-from (suc n) i f (suc k) h = get_or-from n (suc i) f k (le_of_suc-le-suc h) ∙ ap f (suc-add i k ∙ sym (add-suc i k))
 
 pub length_table : (n : ℕ) (f : ℕ → ℕ) → length (table n f) ≡ n
 unfolding table
 length_table n f = length_from n 0 f
 
-pub getD_table : (n : ℕ) (f : ℕ → ℕ) (k : ℕ) → k < n → get_or (table n f) k 0 ≡ f k
+pub get_or-table : (n : ℕ) (f : ℕ → ℕ) (k : ℕ) → k < n → get_or (table n f) k 0 ≡ f k
 unfolding table
-getD_table n f k h = getD_from n 0 f k h ∙ ap f (zero-add k)
+get_or-table n f k h = get_or-from n 0 f k h ∙ ap f (zero-add k)
 
 -- a list whose elements are f's is the table of f
 pub is_table : (n : ℕ) (f : ℕ → ℕ) (l : List ℕ) → length l ≡ n → ((k : ℕ) → k < n → get_or l k 0 ≡ f k) → l ≡ table n f
 is_table n f l e h =
     ext_get_or 0 l (table n f) (e ∙ sym (length_table n f))
-    (λ k lt. h k (subst (λ (m : ℕ). k < m) e lt) ∙ sym (getD_table n f k (subst (λ (m : ℕ). k < m) e lt)))
+    (λ k lt. h k (subst (λ (m : ℕ). k < m) e lt) ∙ sym (get_or-table n f k (subst (λ (m : ℕ). k < m) e lt)))
 
 -- two tables are equal where the functions agree
 pub same_table : (n : ℕ) (f g : ℕ → ℕ) → ((k : ℕ) → k < n → f k ≡ g k) → table n f ≡ table n g
-same_table n f g h = is_table n g (table n f) (length_table n f) (λ k lt. getD_table n f k lt ∙ h k lt)
+same_table n f g h = is_table n g (table n f) (length_table n f) (λ k lt. get_or-table n f k lt ∙ h k lt)
 
 -- an element of a list that is a table
 pub element : {l : List ℕ} {m n : ℕ} (f : ℕ → ℕ) → l ≡ table m f → m ≡ n → (c : ℕ) → c < n → get_or l c 0 ≡ f c
-element {l} {m} {n} f e q c h = ap (λ (x : List ℕ). get_or x c 0) e ∙ getD_table m f c (subst (λ (x : ℕ). c < x) (sym q) h)
+element {l} {m} {n} f e q c h = ap (λ (x : List ℕ). get_or x c 0) e ∙ get_or-table m f c (subst (λ (x : ℕ). c < x) (sym q) h)
 
 -- stores from the front over a whole list
 pub all_set : (vs l : List ℕ) → length l ≡ length vs → sets l 0 vs ≡ vs
@@ -79,7 +79,7 @@ table_part f g l ys zs a m n room mn e agree all k lt = ⊎_elim before inside (
         let jy : j < length ys = rw (e, length_table) jn in
         subst (λ (x : ℕ). get_or (take a l ++ (ys ++ zs)) x 0 ≡ f x) ej
         (ap (λ (x : ℕ). get_or (take a l ++ (ys ++ zs)) (x + j) 0) (sym front) ∙ get_or-append-add (take a l) (ys ++ zs) j 0
-        ∙ get_or-append ys zs 0 j jy ∙ ap (λ (z : List ℕ). get_or z j 0) e ∙ getD_table n g j jn ∙ agree j jm)
+        ∙ get_or-append ys zs 0 j jy ∙ ap (λ (z : List ℕ). get_or z j 0) e ∙ get_or-table n g j jn ∙ agree j jm)
 
 -- Columns of p elements
 

@@ -1,16 +1,14 @@
 -- Digits: their characters, and those of a decimal number.
-use Prim.Native.Nat.{ℕ, zero, suc, ◌+◌, ◌-◌, ◌*◌, ◌/◌, ◌%◌, ◌^◌, ◌<◌, ◌≤◌}
-use mathlib.Core.Bool.{Bool, true, false}
-use mathlib.Core.List.{[], ◌∷◌, ◌++◌}
-use mathlib.Core.Path.{◌≡◌, refl, sym, ap, ◌∙◌}
-use native.Mathlib.Nat.{not-suc-le-zero, pow-suc, one-le-pow, pow-le-pow_right, div-lt_iff_lt-mul, le-div_iff_mul-le}
-use native.Mathlib.Omega.{arith}
-use lib.Dec.{leb, eqb, eqb→eq}
-use borrow.Author.Tests.{lt-ltb, le-ltb, leb-true, leb-false}
-use Rattle.io.specs.Digits.{last_digits, IsDigitCount, hex_digit_ascii}
+use Rattle.std.proofs.Common.{ℕ, zero, suc, ◌+◌, ◌/◌, ◌%◌, ◌<◌, ◌≤◌, List, [], ◌∷◌, ◌++◌, Bool, true, false, eqb, length, take, ◌≡◌, refl, ap, ◌∙◌, arith}
+use Rattle.std.proofs.Math.Nat.{not-suc-le-zero}
+use Rattle.std.proofs.Math.ListN.{set}
+use Rattle.std.proofs.Math.Numerals.{add-one}
+use Rattle.std.proofs.Math.Dec.{eqb→eq}
+use Rattle.std.proofs.lemmas.List.{length_push, take_more_set}
+use Rattle.std.proofs.lemmas.Bool.{lt-ltb, le-ltb, ltb-false}
 use Rattle.choice.specs.Choice.{if◌then◌else◌, ◌<?◌}
 use Rattle.choice.proofs.Below.{all_below_lem}
-use Rattle.lines.specs.Lines.{digit, decimal_below}
+use Rattle.lines.specs.Lines.{digit, hex_digit, decimal_below}
 
 abbrev code : ℕ → ℕ
 code d = if d <? 10 then 0x30 + d else 0x37 + d
@@ -20,31 +18,37 @@ pub digit_code : (d : ℕ) → d < 16 → digit d ≡ code d
 unfolding digit
 digit_code d h = eqb→eq (digit d) (code d) (all_below_lem (λ x. eqb (digit x) (code x)) 16 tt d h)
 
-glyph_decimal : (n : ℕ) → hex_digit_ascii (n % 10) ≡ digit (n % 10)
-glyph_decimal n = let h = lt-ltb (n % 10) 10 (omega arith) in rw h (sym (digit_code (n % 10) (omega arith) ∙ rw h))
-
--- the fewest digits that hold n are those of the definition
-pub decimal_digits_lem : (k n r : ℕ) → n < k → IsDigitCount 10 1 n r → last_digits 10 r n ≡ decimal_below k n
+-- the digits are the same under any bound
+any_bound : (j k n : ℕ) → n < j → n < k → decimal_below j n ≡ decimal_below k n
 unfolding decimal_below
-decimal_digits_lem zero n r h f = absurd (not-suc-le-zero h)
-decimal_digits_lem (suc k) n zero h f = absurd (not-suc-le-zero f.0)
-decimal_digits_lem (suc k) n (suc zero) h f = rw (lt-ltb n 10 f.1, glyph_decimal)
-decimal_digits_lem (suc k) n (suc (suc r)) h f =
-    let e : suc (suc r) - 1 ≡ suc r = omega arith in
-    let e' : suc r - 1 ≡ r = omega arith in
-    let low : 10 ^ r * 10 ≤ n = rw (e, pow-suc) at (f.2 (omega arith)) in
-    let ten : 10 ≤ n = omega (arith, one-le-pow r 10 (omega arith)) in
-    rw (le-ltb n 10 ten, glyph_decimal n)
-    (ap (λ l. l ++ (digit (n % 10) ∷ []))
-    (decimal_digits_lem k (n / 10) (suc r) (omega arith)
-    (omega arith, (div-lt_iff_lt-mul (omega arith)).1 (rw pow-suc at f.1), λ _. rw e' ((le-div_iff_mul-le {k = 10} {x = 10 ^ r} {y = n} (omega arith)).1 low))))
-
--- a u64 has at most 20 digits
-pub at_most_20 : {n r : ℕ} → IsDigitCount 10 1 n r → n < 2 ^ 64 → r ≤ 20
-at_most_20 {n} {r} f h = go (leb r 20) refl
+any_bound zero k n h l = absurd (not-suc-le-zero h)
+any_bound (suc j) zero n h l = absurd (not-suc-le-zero l)
+any_bound (suc j) (suc k) n h l = go (n <? 10) refl (λ e. any_bound j k (n / 10) (omega (arith, ltb-false n 10 e)) (omega (arith, ltb-false n 10 e)))
   where
-    go : (b : Bool) → leb r 20 ≡ b → r ≤ 20
-    go true e = leb-true r 20 e
-    go false e =
-        let more : 20 < r = leb-false r 20 e in
-        absurd (omega (arith, f.2 (omega arith), pow-le-pow_right {n = 10} (omega arith) {i = 20} {j = r - 1} (omega arith)))
+    go : (b : Bool) → (n <? 10) ≡ b
+        → ((n <? 10) ≡ false → decimal_below j (n / 10) ≡ decimal_below k (n / 10))
+        → (if b then [] else decimal_below j (n / 10)) ++ (digit (n % 10) ∷ []) ≡ (if b then [] else decimal_below k (n / 10)) ++ (digit (n % 10) ∷ [])
+    go true e f = refl
+    go false e f = ap (λ l. l ++ (digit (n % 10) ∷ [])) (f e)
+
+pub one_digit : (n : ℕ) → n < 10 → decimal_below (n + 1) n ≡ digit (n % 10) ∷ []
+unfolding decimal_below
+one_digit n h = rw (add-one n, lt-ltb n 10 h) refl
+
+pub more_digits : (n : ℕ) → 10 ≤ n → decimal_below (n + 1) n ≡ decimal_below (n / 10 + 1) (n / 10) ++ (digit (n % 10) ∷ [])
+unfolding decimal_below
+more_digits n h =
+    rw (any_bound (n / 10 + 1) n (n / 10) (omega arith) (omega arith), add-one n, le-ltb n 10 h) refl
+
+pub one_digit-length : (n : ℕ) → n < 10 → length (decimal_below (n + 1) n) ≡ 1
+one_digit-length n h = ap length (one_digit n h)
+
+pub more_digits-length : (n : ℕ) → 10 ≤ n → length (decimal_below (n + 1) n) ≡ length (decimal_below (n / 10 + 1) (n / 10)) + 1
+more_digits-length n h = ap length (more_digits n h) ∙ length_push _ _
+
+-- the last digit behind those before it
+pub last_digit : (digits : List ℕ) (n last v : ℕ) → last < length digits → v ≡ hex_digit (n % 10)
+    → take last digits ++ (digit (n % 10) ∷ []) ≡ decimal_below (n + 1) n → take (last + 1) (set digits last v) ≡ decimal_below (n + 1) n
+last_digit digits n last v h e d =
+    let low : n % 10 % 16 ≡ n % 10 = omega arith in
+    take_more_set digits last v h ∙ rw (e, low) d

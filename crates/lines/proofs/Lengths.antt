@@ -1,12 +1,8 @@
 -- How long lines are.
-use Prim.Native.Nat.{ℕ, zero, suc, ◌+◌, ◌*◌, ◌/◌, ◌%◌, ◌^◌, ◌<◌, ◌≤◌}
-use mathlib.Core.Bool.{Bool, true, false}
-use mathlib.Core.List.{List, [], ◌∷◌, ◌++◌}
-use mathlib.Core.Path.{◌≡◌, refl}
-use native.Mathlib.Nat.{pow-suc, div-lt_iff_lt-mul}
-use native.Mathlib.Omega.{arith}
-use lib.ListN.{length, length-append, length-map}
-use borrow.Author.Tests.{ltb-false}
+use Rattle.std.proofs.Common.{ℕ, zero, suc, ◌+◌, ◌*◌, ◌/◌, ◌%◌, ◌^◌, ◌<◌, ◌≤◌, Bool, true, false, List, [], ◌∷◌, ◌++◌, length, ◌≡◌, refl, arith, length-append}
+use Rattle.std.proofs.Math.Nat.{pow-suc, div-lt_iff_lt-mul}
+use Rattle.std.proofs.lemmas.Bool.{ltb-false}
+use Rattle.std.proofs.lemmas.List.{length-map}
 use Rattle.choice.specs.Choice.{if◌then◌else◌, ◌<?◌}
 use Rattle.lines.specs.Lines.{digit, decimal_below, decimal, row_line, longest_line}
 use Rattle.lines.specs.Pieces.{with_numbers}
@@ -22,9 +18,13 @@ digits-length (suc k) n j h = go (n <? 10) refl j h (λ j l. digits-length k (n 
     go false e zero h f = absurd (omega (arith, h, ltb-false n 10 e))
     go false e (suc j) h f = rw length-append (omega (arith, f j ((div-lt_iff_lt-mul (omega arith)).1 (rw pow-suc at h))))
 
+-- a number of 64 bits has at most 20 digits
+pub at_most_20 : (n : ℕ) → n < 2 ^ 64 → length (decimal_below (n + 1) n) ≤ 20
+at_most_20 n h = digits-length (n + 1) n 19 (omega (arith, h))
+
 decimal-length : (n : ℕ) → n < 2 ^ 64 → length (decimal n) ≤ 21
 unfolding decimal
-decimal-length n h = omega (arith, digits-length (n + 1) n 19 (omega (arith, h)))
+decimal-length n h = omega (arith, at_most_20 n h)
 
 -- numbers of 64 bits
 abbrev pub Small : List ℕ → Type 0

@@ -2,3 +2,4 @@ pub mod Buffers
 pub mod Digits
 mod Examples
 pub mod Lengths
+pub mod Rows

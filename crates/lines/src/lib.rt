@@ -54,6 +54,7 @@ pub fn append_line(buffer: &mut [u8], used: usize, line: Line) -> usize
 }
 
 // A row, one hex digit a dot.
+#[tactic(auto, using(crate::proofs::Rows::row_steps))]
 pub fn append_row(buffer: &mut [u8], used: usize, dots: &[u8]) -> usize
     ensures value { result ≡ used_after buffer.old used (row_line dots.now) }
     ensures buffer_after { buffer.new ≡ appended buffer.old used (row_line dots.now) }

@@ -1,11 +1,12 @@
 // Pieces of lines, in lent buffers.
 ghost use Rattle.std.specs.Prelude.{◌+◌, ◌*◌, ◌≤◌, ◌++◌, ◌≡◌, length, take};
-ghost use Rattle.lines.specs.Lines.{hex_digit, decimal, appended, used_after};
+ghost use Rattle.lines.specs.Lines.{hex_digit, decimal, decimal_below, appended, used_after};
 ghost use Rattle.lines.specs.Pieces.{with_numbers};
 
 // A name, four numbers, each a blank and at most 20 digits, and an end.
 const LONGEST: usize = 7 + 4 * 21 + 4;
 
+#[tactic(auto, using(crate::proofs::Digits::digit_code))]
 pub fn hex_digit(n: u8) -> u8
     ensures { result ≡ hex_digit n }
 {
@@ -29,7 +30,7 @@ fn append(buffer: &mut [u8], used: usize, text: &[u8]) -> usize
         return used;
     }
     let end = used + text.len();
-    bytes::copy(text, &mut buffer[used..end]);
+    buffer[used..end].copy_from_slice(text);
     end
 }
 
@@ -42,14 +43,30 @@ fn put(line: &mut [u8], used: usize, text: &[u8]) -> usize
     append(line, used, text)
 }
 
+// The decimal digits of a number, in a buffer that has room for them, and how many there are.
+fn decimal_digits(n: u64, digits: &mut [u8]) -> usize
+    requires { length (decimal_below (n + 1) n) ≤ length digits.old }
+    ensures value { result ≡ length (decimal_below (n + 1) n) }
+    ensures digits_after { take result digits.new ≡ decimal_below (n + 1) n }
+{
+    let last = if n < 10 {
+        0
+    } else {
+        decimal_digits(n / 10, digits)
+    };
+    digits[last] = hex_digit((n % 10) as u8);
+    last + 1
+}
+
 // A blank and a number, of at most 20 digits.
+#[tactic(auto, using(crate::proofs::Lengths::at_most_20), unfolding(crate::specs::Lines::decimal))]
 fn put_number(line: &mut [u8], used: usize, n: u64) -> usize
     requires { used + 21 ≤ length line.old }
     ensures upper_bound { result ≤ used + 21 }
     ensures line_after { take result line.new ≡ take used line.old ++ decimal n }
 {
     let mut digits = [0u8; 20];
-    let k = io::decimal(n, &mut digits);
+    let k = decimal_digits(n, &mut digits);
     let blank = put(line, used, b" ");
     put(line, blank, &digits[..k])
 }

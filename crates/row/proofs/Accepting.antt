@@ -58,8 +58,8 @@ grey_code registers = field_below 3 registers.grey (omega arith)
 
 -- what a row with no refusal has passed
 record Passed (r : Registers) (memory_length font_length n buffer_length : ℕ) : Type 0 where
-  memory-size : not (memory_length =? memory_size) ≡ false
-  font-size : not (font_length =? font_size) ≡ false
+  memory_whole : not (memory_length =? memory_size) ≡ false
+  font_whole : not (font_length =? font_size) ≡ false
   grey : grey_mode r.grey r.overlay r.system.fx ≡ false
   narrow : (8 <? ⁅ r.system.fx ⁆) ≡ false
   scrolls : smooth_scroll r.hdot r.grey r.system.fx r.system.cr ≡ false
@@ -87,8 +87,8 @@ passes r memory_length font_length n buffer_length e =
     let p16 = passed (⁅ r.system.lf ⁆ ≤? n) 15 _ p15.1 in
     let p17 = passed (not (buffer_length =? width r)) 16 _ p16.1 in
     record {
-      memory-size = p1.0;
-      font-size = p8.0;
+      memory_whole = p1.0;
+      font_whole = p8.0;
       grey = p9.0;
       narrow = p10.0;
       scrolls = p18.0;
@@ -129,7 +129,7 @@ pub other_row : (r : Registers) (memory_length font_length n k buffer_length : �
 unfolding row_refusal
 other_row r memory_length font_length n k buffer_length e h =
     let p = passes r memory_length font_length n buffer_length e in
-    rw (p.memory-size, p.font-size, p.grey, p.narrow, p.scrolls, p.fits, p.even, p.long, p.order, p.cursor, lt-leb ⁅ r.system.lf ⁆ k h, p.whole)
+    rw (p.memory_whole, p.font_whole, p.grey, p.narrow, p.scrolls, p.fits, p.even, p.long, p.order, p.cursor, lt-leb ⁅ r.system.lf ⁆ k h, p.whole)
 
 -- a row that is too wide is refused whatever its buffer
 pub wide_refused : (r : Registers) (memory_length font_length n : ℕ) → 640 < width r

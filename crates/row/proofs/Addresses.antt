@@ -1,6 +1,5 @@
 -- Addresses modulo 65,536, and what is fetched there.
-use Rattle.std.proofs.Common.{◌≡◌, ℕ, ◌+◌, ◌*◌, ◌%◌, ◌^◌, ◌<◌, ◌≤◌, List, ◌++◌, length, get_or, take, drop, sym, ap, ◌∙◌, lt_of_le_of_lt, le_of_lt, mod-eq_of_lt, mul-le-mul_left, mul-lt-mul_of_pos_right, arith, length-drop, length-take-le, get_or-drop, get_or-take, pow_pos}
-use Rattle.choice.proofs.Parts.{copied}
+use Rattle.std.proofs.Common.{◌≡◌, ℕ, ◌+◌, ◌*◌, ◌%◌, ◌^◌, ◌<◌, ◌≤◌, List, length, get_or, take, drop, sym, ap, ◌∙◌, lt_of_le_of_lt, le_of_lt, mod-eq_of_lt, mul-le-mul_left, mul-lt-mul_of_pos_right, arith, length-drop, length-take-le, get_or-drop, get_or-take, pow_pos}
 use Rattle.dots.specs.Tables.{table}
 use Rattle.dots.proofs.Tables.{is_table}
 use Rattle.row.specs.Glyphs.{fetch}
@@ -19,11 +18,10 @@ product {a} {b} ha hb = lt_of_le_of_lt (mul-le-mul_left a (le_of_lt hb)) (mul-lt
 
 -- bytes copied from a part of memory
 pub bytes_copied : (memory line src : List ℕ) (at : ℕ) → at + length line ≤ length memory → length memory ≤ 65536 → src ≡ take (length line) (drop at memory)
-    → take (length src) src ++ drop (length src) line ≡ table (length line) (λ c. fetch memory (at + c))
+    → src ≡ table (length line) (λ c. fetch memory (at + c))
 unfolding fetch
 bytes_copied memory line src at room small e =
-    copied src line (sym len)
-    ∙ is_table (length line) _ src len (λ k lt.
+    is_table (length line) _ src len (λ k lt.
     ap (λ (l : List ℕ). get_or l k 0) e ∙ get_or-take (length line) (drop at memory) k 0 lt ∙ get_or-drop at memory k 0
     ∙ ap (λ (x : ℕ). get_or memory x 0) (sym (mod-eq_of_lt (below k lt))))
   where

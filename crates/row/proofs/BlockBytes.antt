@@ -3,7 +3,7 @@ use Rattle.std.proofs.Common.{◌≡◌, ℕ, ◌+◌, ◌/◌, ◌%◌, true, f
 use Rattle.registers.specs.declared.Registers.{Registers}
 use Rattle.registers.specs.Counts.{⁅◌⁆}
 use Rattle.dots.specs.Tables.{table}
-use Rattle.dots.proofs.Tables.{length_table, getD_table, same_table}
+use Rattle.dots.proofs.Tables.{length_table, get_or-table, same_table}
 use Rattle.row.specs.declared.LayerRow.TheVariants.{Block}
 use Rattle.row.specs.Layers.{is_text, sad}
 use Rattle.row.specs.Glyphs.{fetch, glyph_byte, code_address, block_byte}
@@ -20,7 +20,7 @@ pub text_bytes : (r : Registers) (memory font : List ℕ) (block q n : ℕ) {sta
 unfolding block_byte code_address
 text_bytes r memory font block q n {start} {row} {codes} text e er ec eg =
     eg ∙ ap (λ (m : ℕ). table m (glyph row)) (ap length ec ∙ length_table n _)
-    ∙ same_table n (glyph row) _ (λ c h. rw (text, er) (ap shown (ap (λ (l : List ℕ). get_or l c 0) ec ∙ getD_table n _ c h ∙ fetch_at memory (start + c) _ (omega (arith, e)))))
+    ∙ same_table n (glyph row) _ (λ c h. rw (text, er) (ap shown (ap (λ (l : List ℕ). get_or l c 0) ec ∙ get_or-table n _ c h ∙ fetch_at memory (start + c) _ (omega (arith, e)))))
   where
     glyph : ℕ → ℕ → ℕ
     glyph row c = glyph_byte r.system.m0 r.system.m2 r.cgram memory font (get_or codes c 0) row

@@ -1,5 +1,5 @@
 -- The dots of a byte under the cursor are its dots inverted. It knows no code.
-use Rattle.std.proofs.Common.{◌≡◌, ℕ, ◌+◌, ◌-◌, ◌*◌, ◌/◌, ◌%◌, ◌^◌, ◌<◌, Bool, true, false, not, ◌&&◌, T, List, length, get_or, set, sym, refl, ◌∙◌, subst, ⊎_elim, eq-zero-or-pos, arith, eqb→eq, length-set, get_or-set_other, get_or-set_same, le-ltb, lt-ltb, eq-eqb, ne_eqb, eqb-true}
+use Rattle.std.proofs.Common.{◌≡◌, ℕ, ◌+◌, ◌-◌, ◌*◌, ◌/◌, ◌%◌, ◌<◌, Bool, true, false, not, ◌&&◌, T, List, length, get_or, set, sym, refl, ◌∙◌, subst, ⊎_elim, eq-zero-or-pos, arith, eqb→eq, length-set, get_or-set_other, get_or-set_same, le-ltb, lt-ltb, eq-eqb, ne_eqb, eqb-true}
 use lib.Bits.{bit_xor, xor_zero_r}
 use borrow.Author.Tests.{eqb-false}
 use Rattle.registers.specs.declared.Registers.{Registers}

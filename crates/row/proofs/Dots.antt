@@ -47,18 +47,18 @@ module _ (r : Registers) (memory font : List ℕ) (frame n : ℕ) where
   TwoDots line = (c j : ℕ) → c < ⁅ r.system.cr ⁆ → j < per_column r → dot_of (bits_per_dot r.grey) (get_or line c 0) j ≡ two_dot c j
 
   -- the bytes of a layer mixed into a line
-  pub mixed-in : (layer : LayerRow) (mx : ℕ) (line : List ℕ) {next mixed : List ℕ} {m k : ℕ} → k ≡ m → next ≡ table k (bytes layer)
+  pub mixed_in : (layer : LayerRow) (mx : ℕ) (line : List ℕ) {next mixed : List ℕ} {m k : ℕ} → k ≡ m → next ≡ table k (bytes layer)
       → mixed ≡ table m (λ c. mix_byte mx r.grey (get_or line c 0) (get_or next c 0)) → mixed ≡ table m (λ c. mix_byte mx r.grey (get_or line c 0) (bytes layer c))
-  mixed-in layer mx line {next} {mixed} {m} q en e =
+  mixed_in layer mx line {next} {mixed} {m} q en e =
       e ∙ same_table m _ _ (λ c h. ap (λ (x : ℕ). mix_byte mx r.grey (get_or line c 0) x) (element _ en q c h))
 
   -- layers 1 and 2 as the stages leave them: the bytes of the first, the cursor in them, the bytes of the second mixed in
-  pub two-mixed : {one cursor mixed : List ℕ} {m1 m2 m3 : ℕ} → Composable r → m1 ≡ ⁅ r.system.cr ⁆ → m2 ≡ ⁅ r.system.cr ⁆ → m3 ≡ ⁅ r.system.cr ⁆
+  pub two_mixed : {one cursor mixed : List ℕ} {m1 m2 m3 : ℕ} → Composable r → m1 ≡ ⁅ r.system.cr ⁆ → m2 ≡ ⁅ r.system.cr ⁆ → m3 ≡ ⁅ r.system.cr ⁆
       → one ≡ table m1 (bytes (layer1 r n))
       → cursor ≡ table m2 (λ c. cursor_byte r frame (layer1 r n) c (get_or one c 0))
       → mixed ≡ table m3 (λ c. mix_byte r.overlay.mx r.grey (get_or cursor c 0) (bytes (layer2 r n) c))
       → TwoDots mixed
-  two-mixed h q1 q2 q3 e1 e2 e3 c j lc lj =
+  two_mixed h q1 q2 q3 e1 e2 e3 c j lc lj =
       let fit = (columns_fit r h).1 in
       ap (λ (b : ℕ). dot_of (bits_per_dot r.grey) b j)
       (element _ e3 q3 c lc ∙ ap (λ (x : ℕ). mix_byte r.overlay.mx r.grey x (bytes (layer2 r n) c))
@@ -68,16 +68,16 @@ module _ (r : Registers) (memory font : List ℕ) (frame n : ℕ) where
       (cursor_dots r frame (layer1 r n) c (bytes (layer1 r n) c) j h (λ z. let p = fit.one z in omega arith))
 
   -- without layer 3 that is all
-  pub two-layers : (mixed : List ℕ) → three_layers r.system.ws r.overlay ≡ false → TwoDots mixed → ColumnDots r memory font frame n mixed
+  pub two_layers_lem : (mixed : List ℕ) → three_layers r.system.ws r.overlay ≡ false → TwoDots mixed → ColumnDots r memory font frame n mixed
   unfolding column_dot layer_byte
-  two-layers mixed none two c j lc lj = two c j lc lj ∙ rw (no_third r n none, dot_zero (bits_per_dot r.grey) j)
+  two_layers_lem mixed none two c j lc lj = two c j lc lj ∙ rw (no_third r n none, dot_zero (bits_per_dot r.grey) j)
 
   -- the bytes of layer 3 mixed in
-  pub three-layers : (mixed : List ℕ) {all : List ℕ} {m : ℕ} → Composable r → m ≡ ⁅ r.system.cr ⁆
+  pub three_layers_lem : (mixed : List ℕ) {all : List ℕ} {m : ℕ} → Composable r → m ≡ ⁅ r.system.cr ⁆
       → TwoDots mixed
       → all ≡ table m (λ c. mix_byte (third_mix r.overlay.mx) r.grey (get_or mixed c 0) (bytes (layer3 r n) c)) → ColumnDots r memory font frame n all
   unfolding column_dot
-  three-layers mixed h q two e c j lc lj =
+  three_layers_lem mixed h q two e c j lc lj =
       ap (λ (b : ℕ). dot_of (bits_per_dot r.grey) b j) (element _ e q c lc)
       ∙ mix_dots (third_mix r.overlay.mx) r.grey (per_column r) _ _ j (columns_fit r h).1 lj
       ∙ ap (λ (d : ℕ). mix (third_mix r.overlay.mx) d (layer_dot (layer3 r n) c j) 0) (two c j lc lj)

@@ -2,7 +2,7 @@
 use Rattle.std.proofs.Common.{◌≡◌, ℕ, ◌+◌, ◌<◌, ◌≤◌, List, length, get_or, take, drop, sym, refl, ap, ◌∙◌, arith, length-drop, length-take-le, get_or-drop, get_or-take, eq-eqb}
 use Rattle.registers.specs.declared.Registers.{Registers}
 use Rattle.registers.specs.Layout.{in_layout}
-use Rattle.dots.proofs.Tables.{is_table, getD_table, length_table}
+use Rattle.dots.proofs.Tables.{is_table, get_or-table, length_table}
 use Rattle.row.specs.Layers.{layer1, layer2, layer3}
 use Rattle.row.specs.Glyphs.{code_address, block_byte}
 use Rattle.row.specs.declared.LayerRow.{LayerRow}
@@ -51,7 +51,7 @@ module _ (r : Registers) (memory font : List ℕ) (frame : ℕ) where
 
       each : (x : ℕ) → x < width r → get_or part x 0 ≡ unscrolled_dot r memory font frame n (x + r.hdot)
       each x l =
-          get_or-take (width r) (drop r.hdot all) x 0 l ∙ get_or-drop r.hdot all x 0 ∙ getD_table (width (unscrolled r)) _ (r.hdot + x) (omega (arith, room h))
+          get_or-take (width r) (drop r.hdot all) x 0 l ∙ get_or-drop r.hdot all x 0 ∙ get_or-table (width (unscrolled r)) _ (r.hdot + x) (omega (arith, room h))
           ∙ same-dot n (r.hdot + x + 0) ∙ ap (λ (y : ℕ). unscrolled_dot r memory font frame n y) (omega arith)
 
 pub scrolled_part : ScrolledPart

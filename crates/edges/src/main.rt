@@ -5,9 +5,9 @@
 ghost use Rattle.std.specs.Prelude.{◌≡◌, length};
 ghost use Rattle.registers.specs.Sizes.{memory_size, font_size};
 
-use libc::STDOUT_FILENO;
 use model::Controller;
 use registers::{Answer, FONT_SIZE, MEMORY_SIZE};
+use std::io;
 
 fn display_memory() -> [u8; MEMORY_SIZE]
     ensures { memory_size ≡ length result }
@@ -39,22 +39,27 @@ fn two_lines(memory: &mut [u8]) -> Controller {
     sent(c, memory, 0, 4, 1)
 }
 
-fn ask(c: Controller, memory: &[u8], font: &[u8], row: u32) {
+fn ask(
+    rt: &impl Print,
+    c: Controller,
+    memory: &[u8],
+    font: &[u8],
+    row: u32,
+) -> io::Result<()> {
     let mut out = [0u8; 8];
     let answer = c.row(memory, font, 0, row, &mut out);
     let number = match answer {
         Answer::Accepted => 0,
         Answer::Refused(refusal) => refusal.number(),
     };
-    io::print_decimal(STDOUT_FILENO, number as u64);
-    io::write_all(STDOUT_FILENO, b"\n");
+    println!(rt; "{number}")
 }
 
-fn main() {
+fn main(rt: HostRuntime) -> io::Result<()> {
     let mut memory = display_memory();
     let font = font();
     let c = two_lines(&mut memory);
-    ask(c, &memory, &font, 0);
-    ask(c, &memory, &font, 1);
-    ask(c, &memory, &font, 2);
+    ask(&rt, c, &memory, &font, 0)?;
+    ask(&rt, c, &memory, &font, 1)?;
+    ask(&rt, c, &memory, &font, 2)
 }

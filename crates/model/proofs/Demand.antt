@@ -1,6 +1,6 @@
 -- Demand 3, whole.
 use Rattle.std.proofs.Common.{ℕ, true, replicate, refl, lit<}
-use lib.ListN.{length-replicate}
+use Rattle.std.proofs.lemmas.List.{length-replicate}
 use Rattle.registers.specs.declared.Command.{Command}
 use Rattle.registers.specs.declared.Command.TheVariants.{None, SystemSet, SleepIn, Disp, Scroll, CsrForm, CsrDir, Ovlay, CgramAdr, HdotScr, GrayScale, Csrw, Csrr, Mwrite, Mread}
 use Rattle.registers.specs.Parameters.{allowed, system_allows, form_allows}

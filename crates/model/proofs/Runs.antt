@@ -21,8 +21,8 @@ module _ {P : Outcome → Type 0} where
 
   pub runs_append : {m : Machine} (xs : List BusCall) {ys : List BusCall} {m' m'' : Machine} → Runs P m xs m' → Runs P m' ys m'' → Runs P m (xs ++ ys) m''
   runs_append [] {ys} {m'' = m''} h k = subst (λ (x : Machine). Runs P x ys m'') (sym h.leads) k
-  runs_append (c ∷ xs) h k =
-      let t = runs_append xs (record { leads = h.leads; answered = h.answered.1 }) k in
+  runs_append {m = m} (c ∷ xs) {ys = ys} {m' = m'} {m'' = m''} h k =
+      let t = runs_append {m = (call m c).machine} xs (record { leads = h.leads; answered = h.answered.1 }) k in
       record { leads = t.leads; answered = (h.answered.0, t.answered) }
 
   pub runs_to : {m : Machine} {cs : List BusCall} {m' m'' : Machine} → m' ≡ m'' → Runs P m cs m' → Runs P m cs m''

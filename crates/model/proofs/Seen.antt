@@ -1,6 +1,6 @@
 -- Which commands a list has, whatever their order.
 use Rattle.std.proofs.Common.{◌≡◌, ◌<◌, Bool, true, false, ◌||◌, List, [], ◌∷◌, refl, ◌∙◌, arith, eq-eqb}
-use mathlib.Core.Bool.{or_true}
+use Rattle.std.proofs.Math.Bool.{or-true}
 use Rattle.registers.specs.declared.Command.{Command}
 use Rattle.registers.specs.Commands.{code, ◌is◌}
 use Rattle.model.specs.Refresh.{All, occurrences, without}
@@ -17,7 +17,7 @@ adds (d ∷ ds) seen = adds ds (also d seen)
 
 adds_seen : (ds : List Command) (seen : Command → Bool) (c : Command) → seen c ≡ true → adds ds seen c ≡ true
 adds_seen [] seen c h = h
-adds_seen (d ∷ ds) seen c h = adds_seen ds (also d seen) c (rw (h, or_true))
+adds_seen (d ∷ ds) seen c h = adds_seen ds (also d seen) c (rw (h, or-true))
 
 -- what a list has is seen
 pub adds_counted : (ds : List Command) (seen : Command → Bool) (c : Command) → 0 < occurrences c ds → adds ds seen c ≡ true

@@ -17,7 +17,7 @@ use Rattle.model.specs.Calls.{BusCall, command, call, trace, reset}
 use Rattle.model.specs.Refresh.{All, occurrences, nine, Refresh, opcode, send, sends, sent}
 use Rattle.model.specs.Demand.{Accepted, reached, RefreshSettles}
 use Rattle.model.proofs.Runs.{Runs, runs_none, runs-cons, runs_append, runs_to, after_size}
-use Rattle.model.proofs.Steps.{Takes, takes_awake, begun, stores, parameters_run, at, writing, filled}
+use Rattle.model.proofs.Steps.{Takes, takes_awake, begun, stores, parameters_run, writing, filled}
 use Rattle.model.proofs.Ten.{Ten, of_ten}
 use Rattle.model.proofs.Seen.{none, also, adds, adds_counted, all_counted}
 

@@ -1,7 +1,7 @@
 -- What the calls of a refresh do one by one: a command byte, a parameter, a list of parameters, bytes into memory.
 use Rattle.std.proofs.Common.{◌≡◌, ℕ, zero, suc, ◌+◌, ◌<◌, Bool, true, false, not, ◌&&◌, T, ◌⊎◌, List, [], ◌∷◌, ◌++◌, map, length, set, sym, refl, ap, ◌∙◌, inl, inr, append-nil, arith, length-append, length-set, ltb-true, lt-ltb, eq-eqb}
-use mathlib.Core.Bool.{and-false}
-use lib.Seq.{append_snoc, set-append_seam}
+use Rattle.std.proofs.Math.Bool.{and-false}
+use Rattle.std.proofs.Math.Seq.{append_snoc, set-append_seam}
 use Rattle.registers.specs.declared.Command.{Command}
 use Rattle.registers.specs.declared.Command.TheVariants.{None, SystemSet, SleepIn, Mwrite}
 use Rattle.registers.specs.declared.Direction.TheVariants.{Right}

@@ -1,6 +1,6 @@
 -- Request #102: a display that is off or asleep stays dark until DISP ON; from reset, it is on while the chip is asleep.
 use Rattle.std.proofs.Common.{◌≡◌, ℕ, Bool, true, false, not, ◌&&◌, ◌≢◌, List, [], ◌∷◌, length, sym, refl, ap, ◌∙◌, subst, eqb-true}
-use mathlib.Core.Bool.{and-false}
+use Rattle.std.proofs.Math.Bool.{and-false}
 use Rattle.registers.specs.declared.Command.{Command}
 use Rattle.registers.specs.declared.Command.TheVariants.{SleepIn, Disp}
 use Rattle.registers.specs.declared.Registers.{Registers}

@@ -55,10 +55,6 @@ run_ends m (b ∷ bs) =
     choose (λ (n : ℕ). n < suc (length bs) → stores (after m (map write (take n (b ∷ bs)))) ≡ false) (stores m) _ _
     (λ h shorter. run_ends (data_write m b).machine bs (le_of_suc-le-suc shorter)) (λ h shorter. h)
 
-pub no_run : (m : Machine) (bs : List ℕ) → stores m ≡ false → record { machine = m; length = 0 } ≡ run_outcome m bs
-no_run m [] h = refl
-no_run m (b ∷ bs) h = rw h
-
 -- MWRITE pending, and a cursor that each access moves by the stride
 module _ (c : Controller) (stride : ℕ) (pending : (served c is Mwrite) ≡ true) (moves : (address : ℕ) → next c.registers address ≡ (address + stride) % 65536) where
   -- the cursor at an address

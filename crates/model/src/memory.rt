@@ -56,7 +56,7 @@ fn store_adjacent(memory: &mut [u8], bytes: &[u8], address: u16) -> Stored
     }
     let n = smaller(bytes.len(), memory.len() - at);
     let end = at + n;
-    bytes::copy(&bytes[..n], &mut memory[at..end]);
+    memory[at..end].copy_from_slice(&bytes[..n]);
     Stored {
         address: end as u16,
         length: n,
@@ -147,7 +147,7 @@ impl Controller {
     // Bytes stored from the cursor on while it is inside memory.
     pub(crate) fn write_memory_run(mut self, memory: &mut [u8], bytes: &[u8]) -> WriteRun
         requires memory_len { length memory.old ≡ memory_size }
-        requires is_value { (served self is Mwrite) ≡ true }
+        requires serves_mwrite { (served self is Mwrite) ≡ true }
         ensures { write_run_outcome result memory.new ≡ run_outcome (machine self memory.old) bytes.now }
     {
         let cursor = self.registers.cursor;

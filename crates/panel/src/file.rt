@@ -11,6 +11,7 @@ use crate::reading::fill;
 use crate::{Part, Run};
 use registers::MEMORY_SIZE;
 use session::{Output, Step};
+use std::io::Read;
 
 // Cleared display memory.
 pub fn display_memory() -> [u8; MEMORY_SIZE]
@@ -20,24 +21,39 @@ pub fn display_memory() -> [u8; MEMORY_SIZE]
 }
 
 // Reads on, and carries the next record out.
-fn turn(run: Run, memory: &mut [u8], font: &[u8], input: &mut [u8], out: &mut [u8]) -> Run
+fn turn(
+    rt: &impl Print,
+    stdin: &mut impl Read,
+    run: Run,
+    memory: &mut [u8],
+    font: &[u8],
+    input: &mut [u8],
+    out: &mut [u8],
+) -> Run
     requires { InPart run input.old }
     ensures in_part { InPart result input.new }
     ensures done { (start : Progress) (k : ℕ)
         → Done font.now start k run memory.old out.old input.old
         → Done font.now start (suc k) result memory.new out.new input.new }
 {
-    let run = fill(run, input);
+    let run = fill(stdin, run, input);
     let part = run.part;
     let file = busfile::part(input, 0, part.filled);
     Run {
-        step: session::next(run.step, memory, font, out, file),
+        step: session::next(rt, run.step, memory, font, out, file),
         part: part,
     }
 }
 
 // All records; a closed output stops the file. The count of turns, which no run uses up, is there so that the loop is seen to end.
-fn run_records(memory: &mut [u8], font: &[u8], input: &mut [u8], out: &mut [u8]) -> Step
+fn run_records(
+    rt: &impl Print,
+    stdin: &mut impl Read,
+    memory: &mut [u8],
+    font: &[u8],
+    input: &mut [u8],
+    out: &mut [u8],
+) -> Step
     requires { longest_record ≤ length input.old }
     ensures { Ran font.now (start_of memory.old out.old) (2 ^ 64 - 1)
         (progress result memory.new out.new) result.session.output.open }
@@ -52,7 +68,7 @@ fn run_records(memory: &mut [u8], font: &[u8], input: &mut [u8], out: &mut [u8])
     let mut turns = u64::MAX;
     while turns > 0 {
         turns -= 1;
-        run = turn(run, memory, font, input, out);
+        run = turn(rt, stdin, run, memory, font, input, out);
         let step = run.step;
         if step.more {
             if step.session.output.open {
@@ -65,10 +81,17 @@ fn run_records(memory: &mut [u8], font: &[u8], input: &mut [u8], out: &mut [u8])
 }
 
 // All records, and the line that ends the output.
-pub fn run_file(memory: &mut [u8], font: &[u8], input: &mut [u8], out: &mut [u8]) -> Output
+pub fn run_file(
+    rt: &impl Print,
+    stdin: &mut impl Read,
+    memory: &mut [u8],
+    font: &[u8],
+    input: &mut [u8],
+    out: &mut [u8],
+) -> Output
     requires { (longest_record ≤ length input.old) × (longest_line ≤ length out.old) × (memory.old ≡ replicate memory_size 0) }
     ensures { RunsFile font.now out.old result memory.new out.new }
 {
-    let last = run_records(memory, font, input, out);
-    session::finish(last, out)
+    let last = run_records(rt, stdin, memory, font, input, out);
+    session::finish(rt, last, out)
 }

@@ -20,13 +20,15 @@ struct Run {
     part: Part,
 }
 
-fn main() {
+fn main(rt: HostRuntime) {
     let mut memory = file::display_memory();
     let mut font = reading::font_buffer();
     let mut input = reading::input_buffer();
-    let mut out = io::large_buffer();
-    let size = reading::read_font(&mut font);
+    let mut out = reading::output_buffer();
+    let size = reading::read_font(&rt, &mut font);
     file::run_file(
+        &rt,
+        &mut rt.stdin(),
         &mut memory,
         busfile::part(&font, 0, size),
         &mut input,

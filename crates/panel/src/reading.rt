@@ -4,8 +4,10 @@ ghost use Rattle.registers.specs.Sizes.{font_size};
 ghost use Rattle.panel.specs.Reading.{InPart, Filled};
 
 use crate::Run;
-use libc::STDIN_FILENO;
 use registers::FONT_SIZE;
+use std::fs;
+use std::io::{ErrorKind, Read};
+use std::rt::Files;
 
 const FONT_ROOM: usize = FONT_SIZE + 1;
 
@@ -23,29 +25,56 @@ pub fn input_buffer() -> [u8; 131072]
     [0; 131072]
 }
 
+// Room for the lines that wait to be written out.
+pub fn output_buffer() -> [u8; 65536]
+    ensures { 65536 ≡ length result }
+{
+    [0; 65536]
+}
+
+// Reads until the buffer is full, the input ends or a read fails, and answers how many bytes came. A read that was interrupted
+// is tried again. The count of turns, which no input uses up, is there so that the loop is seen to end.
+fn read_full(reader: &mut impl Read, buffer: &mut [u8]) -> usize
+    ensures { result ≤ length buffer.new }
+{
+    let mut done = 0;
+    for _ in 0..u64::MAX {
+        if done == buffer.len() {
+            break;
+        }
+        match reader.read(&mut buffer[done..]) {
+            Ok(0) => break,
+            Ok(n) => done += n,
+            Err(e) => {
+                if e.kind() != ErrorKind::Interrupted {
+                    break;
+                }
+            }
+        }
+    }
+    done
+}
+
 // Reads the font file, and answers how many bytes came. One that cannot be opened counts as empty, one that fails midway as
 // what came of it.
-pub fn read_font(font: &mut [u8]) -> usize
+pub fn read_font(rt: &impl Files, font: &mut [u8]) -> usize
     ensures { result ≤ length font.new }
 {
-    let file = os::open_read(b"font.bin");
-    if file < 0 {
-        return 0;
+    match fs::open(rt, "font.bin") {
+        Ok(mut file) => read_full(&mut file, font),
+        Err(_) => 0,
     }
-    let size = io::read_full(file, font);
-    libc::close(file);
-    size
 }
 
 // Reads behind the first bytes until the input is full or ends, and answers how many bytes it then has.
-fn read_on(input: &mut [u8], kept: usize) -> usize
+fn read_on(stdin: &mut impl Read, input: &mut [u8], kept: usize) -> usize
     requires { kept ≤ length input.old }
     ensures lower_bound { kept ≤ result }
     ensures upper_bound { result ≤ length input.old }
     ensures input_unchanged { take kept input.new ≡ take kept input.old }
 {
     let size = input.len();
-    let more = io::read_full(STDIN_FILENO, &mut input[kept..]);
+    let more = read_full(stdin, &mut input[kept..]);
     if more < size - kept {
         return kept + more;
     }
@@ -53,7 +82,7 @@ fn read_on(input: &mut [u8], kept: usize) -> usize
 }
 
 // Reads on, unless the longest record would be whole.
-pub fn fill(mut run: Run, input: &mut [u8]) -> Run
+pub fn fill(stdin: &mut impl Read, mut run: Run, input: &mut [u8]) -> Run
     requires { InPart run input.old }
     ensures { Filled run input.old result input.new }
 {
@@ -66,7 +95,7 @@ pub fn fill(mut run: Run, input: &mut [u8]) -> Run
         return run;
     }
     let kept = busfile::compact(input, at, filled);
-    let total = read_on(input, kept);
+    let total = read_on(stdin, input, kept);
     run.step.at = 0;
     run.part.filled = total;
     let ended = total < input.len();

@@ -1,16 +1,7 @@
 -- Lines in the output's buffer.
-use Rattle.std.proofs.Common.{◌≡◌, ℕ, ◌+◌, ◌<◌, ◌≤◌, Bool, true, false, ◌||◌, List, [], ◌∷◌, ◌++◌, length, sym, refl, ap, ◌∙◌, inl, inr, le-ltb, lt-ltb}
-use Rattle.lines.specs.Lines.{appended, used_after, longest_line}
+use Rattle.std.proofs.Common.{◌≡◌, ℕ, Bool, true, false, ◌||◌, List, [], ◌∷◌, ◌++◌, sym, refl, ap, ◌∙◌, inl, inr}
 use Rattle.session.specs.declared.Output.{Output}
-use Rattle.session.specs.Output.{Buffer, buffer, is_full, used_before, printed, printed_all, flushes, OpenAfter, Prints}
-
-pub written_out_lem : (bytes : List ℕ) (used : ℕ) → length bytes < used + longest_line → (is_full (buffer bytes used) ≡ true) × (0 ≡ used_before (buffer bytes used))
-unfolding used_before
-written_out_lem bytes used h = let e = lt-ltb _ _ h in (e, rw e)
-
-pub has_room : (bytes : List ℕ) (used : ℕ) → used + longest_line ≤ length bytes → used ≡ used_before (buffer bytes used)
-unfolding used_before
-has_room bytes used h = rw (le-ltb _ _ h)
+use Rattle.session.specs.Output.{Buffer, buffer, is_full, printed, printed_all, flushes, OpenAfter, Prints}
 
 pub printed_both : (b : Buffer) (xs ys : List (List ℕ)) → printed_all b (xs ++ ys) ≡ printed_all (printed_all b xs) ys
 printed_both b [] ys = refl
@@ -26,12 +17,6 @@ or_assoc : (a b c : Bool) → (a || (b || c)) ≡ ((a || b) || c)
 or_assoc true b c = refl
 or_assoc false b c = refl
 
--- what was written out last was written out
-pub then_written : {a b c : Bool} (v : Bool) → OpenAfter a v b → OpenAfter b true c → OpenAfter a true c
-then_written v (inl e) (inl f) = inl (f ∙ e)
-then_written v (inr e) (inl f) = inr (refl, f ∙ e.1)
-then_written v e (inr f) = inr f
-
 pub open_both : {a b c : Bool} (v w : Bool) → OpenAfter a v b → OpenAfter b w c → OpenAfter a (v || w) c
 open_both v w (inl e) (inl f) = inl (f ∙ e)
 open_both v w (inl e) (inr f) = inr (or_true v f.0, f.1)
@@ -46,13 +31,6 @@ flushes_both b (x ∷ xs) ys = ap (λ (w : Bool). is_full b || w) (flushes_both 
 
 pub prints_none : (o : Output) (bytes : List ℕ) → Prints [] o bytes o bytes
 prints_none o bytes = record { text = refl; stays = inl refl }
-
--- a line that is put behind the bytes that are still used
-pub prints_line : (line : List ℕ) (o : Output) (bytes : List ℕ) {roomy r : Output} {left : List ℕ} → roomy.used ≡ used_before (buffer bytes o.used)
-    → OpenAfter o.open (is_full (buffer bytes o.used)) roomy.open
-    → (r.used ≡ used_after bytes roomy.used line) × (left ≡ appended bytes roomy.used line) → r.open ≡ roomy.open → Prints (line ∷ []) o bytes r left
-prints_line line o bytes u a e same =
-    record { text = rw (e.0, e.1, u); stays = rw same (open_both (is_full (buffer bytes o.used)) false a (inl refl)) }
 
 -- lines, and lines after them
 pub prints_both : (xs ys : List (List ℕ)) {o p q : Output} {a b c : List ℕ} → Prints xs o a p b → Prints ys p b q c → Prints (xs ++ ys) o a q c

@@ -1,5 +1,5 @@
 -- Calls carried out one by one.
-use Rattle.std.proofs.Common.{◌≡◌, ℕ, suc, ◌+◌, ◌-◌, ◌<◌, Bool, List, [], ◌∷◌, ◌++◌, map, length, get_or, take, drop, replicate, sym, refl, ◌∙◌, subst, inl, append-nil, add-zero, add-one, arith, take-append-drop, length-take-le, drop-cons, drop-drop}
+use Rattle.std.proofs.Common.{◌≡◌, ℕ, suc, ◌+◌, ◌-◌, ◌<◌, ◌≤◌, Bool, List, [], ◌∷◌, ◌++◌, map, length, get_or, take, drop, replicate, sym, refl, ◌∙◌, subst, inl, append-nil, add-zero, add-one, arith, take-append-drop, length-drop, length-take-le, drop-cons, drop-drop}
 use Rattle.registers.specs.Refusals.{accepted}
 use Rattle.model.specs.Machine.{Machine, Outcome}
 use Rattle.model.specs.Calls.{BusCall, command, write, read, bus_calls, call, after, outcomes}
@@ -55,6 +55,10 @@ writes_first r k s (b ∷ bs) cs all rest =
     further : k + suc (length bs) ≡ k + 1 + length bs
     further = omega arith
 
+-- the run takes no more than the data
+pub run_in_data : (payload : List ℕ) (m : Machine) {o : RunOutcome} → o ≡ run_outcome m (drop 1 payload) → o.length ≤ length payload - 1
+run_in_data payload m e = rw e (omega (arith, run_within m (drop 1 payload), length-drop 1 payload))
+
 -- the run that a payload's data start with; the data after it
 pub run_first : (r : ℕ) (payload : List ℕ) (s : Live) {o : RunOutcome} {u : Live} → o ≡ run_outcome s.state.machine (drop 1 payload)
     → CarriesOutCalls r (1 + o.length + 1) (map write (drop (1 + o.length) payload)) (moved s o.machine) u → CarriesOutCalls r 2 (map write (drop 1 payload)) s u
@@ -83,7 +87,3 @@ read_more r i count s {u = u} h e rest =
   where
     one_less : suc (count - (i + 1)) ≡ count - i
     one_less = omega arith
-
-pub no_bytes : (payload : List ℕ) → length payload ≡ 0 → bus_calls payload ≡ []
-no_bytes [] e = refl
-no_bytes (b ∷ bs) e = absurd (omega arith)

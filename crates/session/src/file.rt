@@ -42,7 +42,14 @@ fn following(good: u64) -> u64
 }
 
 // Carries out what stands at the step's place. A bad record prints `bad` and stops, and so does the end, silently.
-fn next_record(step: Step, memory: &mut [u8], font: &[u8], out: &mut [u8], file: &[u8]) -> Step
+fn next_record(
+    rt: &impl Print,
+    step: Step,
+    memory: &mut [u8],
+    font: &[u8],
+    out: &mut [u8],
+    file: &[u8],
+) -> Step
     ensures out_after { progress result memory.new out.new
         ≡ after_found font.now file.now step.at step.good (record_at file.now step.at)
         (state step.session memory.old out.old) }
@@ -70,7 +77,7 @@ fn next_record(step: Step, memory: &mut [u8], font: &[u8], out: &mut [u8], file:
         return Step {
             session: Session {
                 controller: controller,
-                output: print_line(s.output, out, Line::Bad(number)),
+                output: print_line(rt, s.output, out, Line::Bad(number)),
             },
             at: at,
             good: good,
@@ -80,7 +87,7 @@ fn next_record(step: Step, memory: &mut [u8], font: &[u8], out: &mut [u8], file:
     let payload = busfile::payload_at(file, r.start, r.end);
     let kind = r.kind;
     Step {
-        session: run_record(s, memory, font, out, kind, payload, number),
+        session: run_record(rt, s, memory, font, out, kind, payload, number),
         at: r.end,
         good: number,
         more: true,
@@ -88,7 +95,14 @@ fn next_record(step: Step, memory: &mut [u8], font: &[u8], out: &mut [u8], file:
 }
 
 // The next record of a file that goes on; one that has stopped stays as it is.
-pub fn next(step: Step, memory: &mut [u8], font: &[u8], out: &mut [u8], file: &[u8]) -> Step
+pub fn next(
+    rt: &impl Print,
+    step: Step,
+    memory: &mut [u8],
+    font: &[u8],
+    out: &mut [u8],
+    file: &[u8],
+) -> Step
     ensures out_after { progress result memory.new out.new
         ≡ next_step font.now file.now (progress step memory.old out.old) }
     ensures open_after { OpenAfter step.session.output.open
@@ -97,17 +111,17 @@ pub fn next(step: Step, memory: &mut [u8], font: &[u8], out: &mut [u8], file: &[
         result.session.output.open }
 {
     if step.more {
-        return next_record(step, memory, font, out, file);
+        return next_record(rt, step, memory, font, out, file);
     }
     step
 }
 
 // Prints the last line, and writes out what the buffer holds.
-pub fn finish(step: Step, out: &mut [u8]) -> Output
+pub fn finish(rt: &impl Print, step: Step, out: &mut [u8]) -> Output
     ensures out_after { out.new ≡ (printed (buffer out.old step.session.output.used) (end_line step.good)).bytes }
     ensures used_value { result.used ≡ 0 }
     ensures open_after { OpenAfter step.session.output.open true result.open }
 {
-    let last = print_line(step.session.output, out, Line::End(step.good));
-    flush(last, out)
+    let last = print_line(rt, step.session.output, out, Line::End(step.good));
+    flush(rt, last, out)
 }

@@ -11,10 +11,10 @@ use crate::{Frame, Output, Session};
 use lines::Line;
 use registers::Answer;
 
-fn print_row(o: Output, out: &mut [u8], row: &[u8]) -> Output
+fn print_row(rt: &impl Print, o: Output, out: &mut [u8], row: &[u8]) -> Output
     ensures { Prints (row_line row.now ∷ []) o out.old result out.new }
 {
-    let o = room(o, out);
+    let o = room(rt, o, out);
     Output {
         used: lines::append_row(out, o.used, row),
         open: o.open,
@@ -23,6 +23,7 @@ fn print_row(o: Output, out: &mut [u8], row: &[u8]) -> Output
 
 // The rows of a frame whose first row is accepted.
 fn show_rows(
+    rt: &impl Print,
     s: Session,
     memory: &[u8],
     font: &[u8],
@@ -42,7 +43,7 @@ fn show_rows(
     let mut n: u16 = 0;
     while n < frame.rows.0 {
         controller.row(memory, font, frame.number, n as u32, row);
-        o = print_row(o, out, row);
+        o = print_row(rt, o, out, row);
         n += 1;
     }
     o
@@ -50,6 +51,7 @@ fn show_rows(
 
 // A frame, its rows in a buffer, or the refusal of its first row: the others are accepted or refused with it.
 fn show_frame(
+    rt: &impl Print,
     s: Session,
     memory: &[u8],
     font: &[u8],
@@ -66,21 +68,22 @@ fn show_frame(
     let controller = s.controller;
     let answer = controller.row(memory, font, frame.number, 0, row);
     match answer {
-        Answer::Refused(_) => print_answer(s.output, out, answer, frame.record, 0),
+        Answer::Refused(_) => print_answer(rt, s.output, out, answer, frame.record, 0),
         Answer::Accepted => {
             let head = Line::Frame(frame.record, frame.number, row.len(), frame.rows.0);
-            let o = print_line(s.output, out, head);
+            let o = print_line(rt, s.output, out, head);
             let shown = Session {
                 controller: controller,
                 output: o,
             };
-            show_rows(shown, memory, font, out, row, frame)
+            show_rows(rt, shown, memory, font, out, row, frame)
         }
     }
 }
 
 // A frame number to show. 640 dots are enough: a wider frame is refused before 17 is tested.
 pub fn show(
+    rt: &impl Print,
     s: Session,
     memory: &[u8],
     font: &[u8],
@@ -100,5 +103,5 @@ pub fn show(
         number: number,
         rows: rows,
     };
-    show_frame(s, memory, font, out, &mut row[..width], frame)
+    show_frame(rt, s, memory, font, out, &mut row[..width], frame)
 }

@@ -11,7 +11,7 @@ use model::Written;
 use registers::Answer;
 
 // The command byte of a kind 1 record.
-fn run_command(s: Session, out: &mut [u8], b: u8, record: u64) -> Session
+fn run_command(rt: &impl Print, s: Session, out: &mut [u8], b: u8, record: u64) -> Session
     ensures { (memory : List ℕ) → CarriesOutCalls «record» 1 (command b ∷ [])
         (live s memory out.old) (live result memory out.new) }
 {
@@ -21,12 +21,19 @@ fn run_command(s: Session, out: &mut [u8], b: u8, record: u64) -> Session
     let answer = written.answer;
     Session {
         controller: controller,
-        output: print_answer(s.output, out, answer, record, 1),
+        output: print_answer(rt, s.output, out, answer, record, 1),
     }
 }
 
 // The bytes of a kind 1 record behind its command byte. The first of them that go into memory print nothing, and are written as one run.
-fn run_data(s: Session, memory: &mut [u8], out: &mut [u8], payload: &[u8], record: u64) -> Session
+fn run_data(
+    rt: &impl Print,
+    s: Session,
+    memory: &mut [u8],
+    out: &mut [u8],
+    payload: &[u8],
+    record: u64,
+) -> Session
     requires { 0 < length payload.now }
     ensures { CarriesOutCalls «record» 2 (map write (drop 1 payload.now))
         (live s memory.old out.old) (live result memory.new out.new) }
@@ -46,7 +53,7 @@ fn run_data(s: Session, memory: &mut [u8], out: &mut [u8], payload: &[u8], recor
         let controller = written.controller;
         written = controller.data_write(memory, b);
         let answer = written.answer;
-        o = print_answer(o, out, answer, record, i as u64);
+        o = print_answer(rt, o, out, answer, record, i as u64);
     }
     let controller = written.controller;
     Session {
@@ -56,18 +63,32 @@ fn run_data(s: Session, memory: &mut [u8], out: &mut [u8], payload: &[u8], recor
 }
 
 // A command byte, then its data writes.
-fn run_bus(s: Session, memory: &mut [u8], out: &mut [u8], payload: &[u8], record: u64) -> Session
+fn run_bus(
+    rt: &impl Print,
+    s: Session,
+    memory: &mut [u8],
+    out: &mut [u8],
+    payload: &[u8],
+    record: u64,
+) -> Session
     ensures { CarriesOutCalls «record» 1 (bus_calls payload.now)
         (live s memory.old out.old) (live result memory.new out.new) }
 {
     if payload.len() == 0 {
         return s;
     }
-    let session = run_command(s, out, payload[0], record);
-    run_data(session, memory, out, payload, record)
+    let session = run_command(rt, s, out, payload[0], record);
+    run_data(rt, session, memory, out, payload, record)
 }
 
-fn run_read(s: Session, memory: &[u8], out: &mut [u8], record: u64, index: u64) -> Session
+fn run_read(
+    rt: &impl Print,
+    s: Session,
+    memory: &[u8],
+    out: &mut [u8],
+    record: u64,
+    index: u64,
+) -> Session
     ensures { CarriesOutCalls «record» index (read ∷ [])
         (live s memory.now out.old) (live result memory.now out.new) }
 {
@@ -77,12 +98,19 @@ fn run_read(s: Session, memory: &[u8], out: &mut [u8], record: u64, index: u64) 
     let answer = read.answer;
     Session {
         controller: controller,
-        output: print_read(s.output, out, answer, record, index),
+        output: print_read(rt, s.output, out, answer, record, index),
     }
 }
 
 // A count of reads.
-fn run_reads(s: Session, memory: &[u8], out: &mut [u8], count: u16, record: u64) -> Session
+fn run_reads(
+    rt: &impl Print,
+    s: Session,
+    memory: &[u8],
+    out: &mut [u8],
+    count: u16,
+    record: u64,
+) -> Session
     ensures { CarriesOutCalls «record» 1 (replicate count read)
         (live s memory.now out.old) (live result memory.now out.new) }
 {
@@ -90,13 +118,14 @@ fn run_reads(s: Session, memory: &[u8], out: &mut [u8], count: u16, record: u64)
     let mut i: u16 = 0;
     while i < count {
         i += 1;
-        session = run_read(session, memory, out, record, i as u64);
+        session = run_read(rt, session, memory, out, record, i as u64);
     }
     session
 }
 
 // Carries one record out.
 pub fn run_record(
+    rt: &impl Print,
     s: Session,
     memory: &mut [u8],
     font: &[u8],
@@ -109,11 +138,19 @@ pub fn run_record(
         (live s memory.old out.old) (live result memory.new out.new) }
 {
     match kind {
-        Kind::Bus => run_bus(s, memory, out, payload, record),
-        Kind::Reads => run_reads(s, memory, out, busfile::word(payload), record),
+        Kind::Bus => run_bus(rt, s, memory, out, payload, record),
+        Kind::Reads => run_reads(rt, s, memory, out, busfile::word(payload), record),
         Kind::Frame => {
             let controller = s.controller;
-            let o = show(s, memory, font, out, busfile::double_word(payload), record);
+            let o = show(
+                rt,
+                s,
+                memory,
+                font,
+                out,
+                busfile::double_word(payload),
+                record,
+            );
             Session {
                 controller: controller,
                 output: o,

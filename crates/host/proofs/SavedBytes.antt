@@ -1,12 +1,6 @@
 -- Saved controllers: laws on their bytes, and that reading and saving undo each other.
-use Prim.Native.Nat.{ℕ, ◌+◌, ◌*◌, ◌<◌}
-use mathlib.Core.Bool.{Bool, true, false}
-use mathlib.Core.List.{List}
-use mathlib.Core.Path.{◌≡◌, refl, sym, ◌∙◌}
-use native.Mathlib.Omega.{arith}
-use borrow.Author.Tests.{eqb-true}
+use Rattle.std.proofs.Common.{◌≡◌, ℕ, ◌+◌, ◌*◌, ◌<◌, Bool, true, false, List, length, sym, refl, ◌∙◌, arith, eqb-true}
 use mir.Val.{bool_byte}
-use lib.ListN.{length}
 use Rattle.choice.specs.Choice.{◌=?◌}
 use Rattle.choice.proofs.Below.{below2, below4}
 use Rattle.choice.proofs.Cases.{both_true}

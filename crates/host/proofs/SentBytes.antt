@@ -1,14 +1,6 @@
 -- Records that are sent byte by byte.
-use Prim.Native.Nat.{ℕ, zero, suc, ◌+◌, ◌<◌, ◌≤◌, zero-le}
-use mathlib.Core.Bool.{true}
-use mathlib.Core.List.{List, [], ◌∷◌, ◌++◌, map, map-append}
-use mathlib.Core.Path.{◌≡◌, refl, sym, ap, ◌∙◌}
-use native.Mathlib.Nat.{zero-add, lt_of_le_of_lt}
-use native.Mathlib.Numerals.{add-one}
-use native.Mathlib.Omega.{arith}
-use lib.ListN.{length, get_or, set, take, drop, replicate, length-map, length-drop, length-replicate, get_or-replicate}
-use lib.Seq.{take_all, take-suc, take-suc-set, take-add, length-take-le, get_or-take, get_or-drop, ext_get_or}
-use borrow.Author.Tests.{eqb-true, ltb-true}
+use Rattle.std.proofs.Common.{◌≡◌, ℕ, zero, suc, ◌+◌, ◌<◌, ◌≤◌, true, List, [], ◌∷◌, ◌++◌, map, length, get_or, take, drop, set, replicate, sym, refl, ap, ◌∙◌, zero-le, lt_of_le_of_lt, zero-add, add-one, arith, length-drop, length-take-le, get_or-drop, get_or-take, take-suc, take-suc-set, ext_get_or, take-add, ltb-true, eqb-true}
+use Rattle.std.proofs.lemmas.List.{map-append, length-map, length-replicate, get_or-replicate}
 use Rattle.choice.specs.Choice.{◌<?◌, ◌=?◌}
 use Rattle.choice.proofs.Cases.{choose, both_true}
 use Rattle.registers.specs.Refusals.{Reply, accepted}
@@ -19,9 +11,8 @@ use Rattle.model.specs.Calls.{BusCall, write, call, bus_calls, after, outcomes}
 use Rattle.model.specs.Refresh.{All}
 use Rattle.model.specs.WriteRun.{run_length, RunOutcome, run_outcome}
 use Rattle.model.proofs.WriteRuns.{run_within, run_accepted}
-use Rattle.host.specs.Sending.{numbers, refusal_count, refusals, SendOutcome, answered, send_outcome, nothing_sent, is_sendable, send_returned, send_saved, after_send}
-use Rattle.host.specs.Saved.{is_saved, controller_of, saved_bytes}
-use Rattle.host.specs.Calls.{returned}
+use Rattle.host.specs.Sending.{numbers, refusal_count, refusals, send_outcome, nothing_sent, is_sendable}
+use Rattle.host.specs.Saved.{is_saved}
 
 -- Lists of calls, one behind the other
 
@@ -132,14 +123,6 @@ module _ {m₀ : Machine} {bytes : List ℕ} {i refused : ℕ} {m : Machine} {an
       more_sent (get_or bytes i 0 ∷ []) (omega arith) (omega arith) (rw add-one (take-suc bytes i 0 h)) (ap (λ (o : Outcome). o.machine) e)
       (rw (add-one, number, ← told) (take-suc-set answers i _ l)) (rw (count, number, ← told) (omega arith))
 
-  -- all are sent
-  pub all_sent : length bytes ≤ i → length answers ≡ length bytes → record { machine = m; refused = refused; answers = answers } ≡ send_outcome m₀ bytes
-  all_sent h same =
-      let bytes_all = take_all i bytes h in
-      let answers_all = take_all i answers (rw same h) in
-      rw (s.leads, s.counted, bytes_all, answers_all)
-      (ap (λ (ns : List ℕ). answered (after m₀ (bus_calls bytes)) ns) (sym answers_all ∙ s.told ∙ rw bytes_all))
-
 -- Records sent to a saved controller
 
 pub sendable : (s bytes answers : List ℕ) → is_sendable s bytes answers ≡ true
@@ -156,8 +139,3 @@ pub never_a_count : (s bytes answers : List ℕ) (m : Machine) → is_sendable s
 never_a_count s bytes answers m e =
     let few : refusals (numbers m (bus_calls bytes)) ≤ length bytes = rw (← calls-length bytes, ← numbers-length m (bus_calls bytes)) (refusals_within (numbers m (bus_calls bytes))) in
     lt_of_le_of_lt few (sendable s bytes answers e).2
-
-pub send_saved_lem : (s memory bytes answers : List ℕ) {k : Controller} {o : SendOutcome} {s' : List ℕ} → is_sendable s bytes answers ≡ true
-    → k ≡ controller_of s → o ≡ send_outcome (machine k memory) bytes → s' ≡ saved_bytes o.machine.controller
-    → send_returned (returned o.refused s' o.machine.memory) o.answers ≡ after_send s memory bytes answers
-send_saved_lem s memory bytes answers is e o w = rw (w, is) (ap send_saved o ∙ rw e)

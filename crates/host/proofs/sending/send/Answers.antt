@@ -1,6 +1,5 @@
 -- The loop starts behind the command byte and a run, whose answers are the zeros that were there; a turn sends a byte more.
-use Rattle.std.proofs.Common.{◌≡◌, ℕ, ◌+◌, ◌<◌, ◌≤◌, List, length, get_or, set, drop, ap, ◌∙◌, arith, length-set, length-drop}
-use lib.Seq.{get_or-set_other}
+use Rattle.std.proofs.Common.{◌≡◌, ℕ, ◌+◌, ◌<◌, ◌≤◌, List, length, get_or, set, drop, ap, ◌∙◌, arith, length-set, length-drop, get_or-set_other}
 use Rattle.choice.proofs.Parts.{part_to_end}
 use Rattle.dots.specs.Tables.{table}
 use Rattle.dots.proofs.Tables.{length_table, element}

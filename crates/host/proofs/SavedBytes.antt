@@ -1,12 +1,6 @@
 -- Saved controllers: laws on their bytes, and that reading and saving undo each other.
-use Prim.Native.Nat.{ℕ, ◌+◌, ◌*◌, ◌<◌}
-use mathlib.Core.Bool.{Bool, true, false}
-use mathlib.Core.List.{List}
-use mathlib.Core.Path.{◌≡◌, refl, sym, ◌∙◌}
-use native.Mathlib.Omega.{arith}
-use borrow.Author.Tests.{eqb-true}
+use Rattle.std.proofs.Common.{◌≡◌, ℕ, ◌+◌, ◌*◌, ◌<◌, Bool, true, false, List, length, sym, refl, ◌∙◌, arith, eqb-true}
 use mir.Val.{bool_byte}
-use lib.ListN.{length}
 use Rattle.choice.specs.Choice.{◌=?◌}
 use Rattle.choice.proofs.Below.{below2, below4}
 use Rattle.choice.proofs.Cases.{both_true}
@@ -26,9 +20,9 @@ pub flag_byte : (b : Bool) → bool_byte b ≡ flag b
 flag_byte true = refl
 flag_byte false = refl
 
-pub saved-length : (s : List ℕ) → is_saved s ≡ true → length s ≡ 48
+pub saved_length : (s : List ℕ) → is_saved s ≡ true → length s ≡ 48
 unfolding is_saved
-saved-length s e = eqb-true _ _ (both_true (length s =? 48) (byte_at s 0 =? 1) e).0
+saved_length s e = eqb-true _ _ (both_true (length s =? 48) (byte_at s 0 =? 1) e).0
 
 pub saved_format : (s : List ℕ) → is_saved s ≡ true → byte_at s 0 ≡ 1
 unfolding is_saved
@@ -83,18 +77,18 @@ saved_in_layout c =
       flags = search flag_below;
       pending = rw of_code;
       direction = direction_below c.registers.cursor.direction;
-      reserved = search refl;
+      reserved = (refl, (refl, (refl, (refl, (refl, tt)))));
     }
 
 read_saved : (s : List ℕ) → All Byte s → InLayout s → saved_bytes (controller_of s) ≡ s
 unfolding controller_of saved_bytes table is_saved
-read_saved s bytes h = each ∙ sym (is_table 48 (byte_at s) s (saved-length s h.saved) (λ k lt. refl))
+read_saved s bytes h = each ∙ sym (is_table 48 (byte_at s) s (saved_length s h.saved) (λ k lt. refl))
   where
-    low-saved : (i j : ℕ) → low (byte_at s i + 256 * byte_at s j) ≡ byte_at s i
-    low-saved i j = omega (arith, byte_at_lem s bytes i)
+    low_saved : (i j : ℕ) → low (byte_at s i + 256 * byte_at s j) ≡ byte_at s i
+    low_saved i j = omega (arith, byte_at_lem s bytes i)
 
-    high-saved : (i j : ℕ) → high (byte_at s i + 256 * byte_at s j) ≡ byte_at s j
-    high-saved i j = omega (arith, byte_at_lem s bytes i)
+    high_saved : (i j : ℕ) → high (byte_at s i + 256 * byte_at s j) ≡ byte_at s j
+    high_saved i j = omega (arith, byte_at_lem s bytes i)
 
     each : saved_bytes (controller_of s) ≡ table 48 (byte_at s)
     each =
@@ -121,7 +115,7 @@ read_saved s bytes h = each ∙ sym (is_table 48 (byte_at s) s (saved-length s h
           reserved.1.1.1.0,
           reserved.1.1.1.1.0,
         )
-        (simp (low-saved, high-saved))
+        (simp (low_saved, high_saved))
 
 pub saved_form : SavedForm
 saved_form = record { saved_read = saved_read; saved_in_layout = saved_in_layout; read_saved = read_saved }

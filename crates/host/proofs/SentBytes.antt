@@ -1,14 +1,6 @@
 -- Records that are sent byte by byte.
-use Prim.Native.Nat.{ℕ, zero, suc, ◌+◌, ◌<◌, ◌≤◌, zero-le}
-use mathlib.Core.Bool.{true}
-use mathlib.Core.List.{List, [], ◌∷◌, ◌++◌, map, map-append}
-use mathlib.Core.Path.{◌≡◌, refl, sym, ap, ◌∙◌}
-use native.Mathlib.Nat.{zero-add, lt_of_le_of_lt}
-use native.Mathlib.Numerals.{add-one}
-use native.Mathlib.Omega.{arith}
-use lib.ListN.{length, get_or, set, take, drop, replicate, length-map, length-drop, length-replicate, get_or-replicate}
-use lib.Seq.{take_all, take-suc, take-suc-set, take-add, length-take-le, get_or-take, get_or-drop, ext_get_or}
-use borrow.Author.Tests.{eqb-true, ltb-true}
+use Rattle.std.proofs.Common.{◌≡◌, ℕ, zero, suc, ◌+◌, ◌<◌, ◌≤◌, true, List, [], ◌∷◌, ◌++◌, map, length, get_or, take, drop, set, replicate, sym, refl, ap, ◌∙◌, zero-le, lt_of_le_of_lt, zero-add, add-one, arith, length-drop, length-take-le, get_or-drop, get_or-take, take-suc, take-suc-set, ext_get_or, take-add, ltb-true, eqb-true}
+use Rattle.std.proofs.lemmas.List.{map-append, length-map, length-replicate, get_or-replicate}
 use Rattle.choice.specs.Choice.{◌<?◌, ◌=?◌}
 use Rattle.choice.proofs.Cases.{choose, both_true}
 use Rattle.registers.specs.Refusals.{Reply, accepted}
@@ -19,9 +11,8 @@ use Rattle.model.specs.Calls.{BusCall, write, call, bus_calls, after, outcomes}
 use Rattle.model.specs.Refresh.{All}
 use Rattle.model.specs.WriteRun.{run_length, RunOutcome, run_outcome}
 use Rattle.model.proofs.WriteRuns.{run_within, run_accepted}
-use Rattle.host.specs.Sending.{numbers, refusal_count, refusals, SendOutcome, answered, send_outcome, nothing_sent, is_sendable, send_returned, send_saved, after_send}
-use Rattle.host.specs.Saved.{is_saved, controller_of, saved_bytes}
-use Rattle.host.specs.Calls.{returned}
+use Rattle.host.specs.Sending.{numbers, refusal_count, refusals, send_outcome, nothing_sent, is_sendable}
+use Rattle.host.specs.Saved.{is_saved}
 
 -- Lists of calls, one behind the other
 
@@ -93,9 +84,9 @@ command_sent m₀ (b ∷ bs) (x ∷ xs) h l e number count =
 
 -- data writes more
 module _ {m₀ : Machine} {bytes : List ℕ} {i refused : ℕ} {m : Machine} {answers : List ℕ} (s : SentSoFar m₀ bytes i refused m answers) where
-  more-sent : (bs : List ℕ) {j r : ℕ} {m' : Machine} {answers' : List ℕ} → i ≤ j → j ≤ length bytes → take j bytes ≡ take i bytes ++ bs → m' ≡ after m (map write bs)
+  more_sent : (bs : List ℕ) {j r : ℕ} {m' : Machine} {answers' : List ℕ} → i ≤ j → j ≤ length bytes → take j bytes ≡ take i bytes ++ bs → m' ≡ after m (map write bs)
       → take j answers' ≡ take i answers ++ numbers m (map write bs) → r ≡ refused + refusals (numbers m (map write bs)) → SentSoFar m₀ bytes j r m' answers'
-  more-sent bs {j} up within e leads told counted =
+  more_sent bs {j} up within e leads told counted =
       let both : bus_calls (take j bytes) ≡ bus_calls (take i bytes) ++ map write bs = rw e (calls-append (take i bytes) bs (rw (length-take-le i bytes s.within) s.some)) in
       record {
         some = omega (arith, s.some);
@@ -106,14 +97,14 @@ module _ {m₀ : Machine} {bytes : List ℕ} {i refused : ℕ} {m : Machine} {an
       }
 
   -- the run that they start with
-  pub run-sent : {o : RunOutcome} → o ≡ run_outcome m (drop i bytes) → ((k : ℕ) → i ≤ k → k < length bytes → get_or answers k 0 ≡ 0)
+  pub run_sent : {o : RunOutcome} → o ≡ run_outcome m (drop i bytes) → ((k : ℕ) → i ≤ k → k < length bytes → get_or answers k 0 ≡ 0)
       → length answers ≡ length bytes → SentSoFar m₀ bytes (i + o.length) refused o.machine answers
-  run-sent e zeros same =
+  run_sent e zeros same =
       let n = run_length m (drop i bytes) in
       let within : i + n ≤ length bytes = omega (arith, run_within m (drop i bytes), length-drop i bytes, s.within) in
       let accepted : numbers m (map write (take n (drop i bytes))) ≡ replicate n 0 =
       numbers_accepted m (take n (drop i bytes)) (run_accepted m (drop i bytes)) ∙ rw (length-take-le n (drop i bytes) (run_within m (drop i bytes))) in
-      rw e (more-sent (take n (drop i bytes)) (omega arith) within (take-add i n bytes) refl (take-add i n answers ∙ rw (accepted, cleared n within)) (rw (accepted, refusals_none) (omega arith)))
+      rw e (more_sent (take n (drop i bytes)) (omega arith) within (take-add i n bytes) refl (take-add i n answers ∙ rw (accepted, cleared n within)) (rw (accepted, refusals_none) (omega arith)))
     where
       cleared : (n : ℕ) → i + n ≤ length bytes → take n (drop i answers) ≡ replicate n 0
       cleared n h =
@@ -124,21 +115,13 @@ module _ {m₀ : Machine} {bytes : List ℕ} {i refused : ℕ} {m : Machine} {an
           get_or-take n (drop i answers) k 0 below ∙ get_or-drop i answers k 0 ∙ zeros (i + k) (omega arith) (omega arith) ∙ sym (get_or-replicate n k 0 0 below))
 
   -- one more
-  pub write-sent : {k : Controller} {a : Reply} {memory : List ℕ} {n r : ℕ} → i < length bytes → i < length answers
+  pub write_sent : {k : Controller} {a : Reply} {memory : List ℕ} {n r : ℕ} → i < length bytes → i < length answers
       → record { machine = machine k memory; reply = a } ≡ data_write m (get_or bytes i 0) → n ≡ a.refusal → r ≡ refused + refusal_count n
       → SentSoFar m₀ bytes (i + 1) r (machine k memory) (set answers i n)
-  write-sent h l e number count =
+  write_sent h l e number count =
       let told = ap (λ (o : Outcome). o.reply.refusal) e in
-      more-sent (get_or bytes i 0 ∷ []) (omega arith) (omega arith) (rw add-one (take-suc bytes i 0 h)) (ap (λ (o : Outcome). o.machine) e)
+      more_sent (get_or bytes i 0 ∷ []) (omega arith) (omega arith) (rw add-one (take-suc bytes i 0 h)) (ap (λ (o : Outcome). o.machine) e)
       (rw (add-one, number, ← told) (take-suc-set answers i _ l)) (rw (count, number, ← told) (omega arith))
-
-  -- all are sent
-  pub all-sent : length bytes ≤ i → length answers ≡ length bytes → record { machine = m; refused = refused; answers = answers } ≡ send_outcome m₀ bytes
-  all-sent h same =
-      let bytes-all = take_all i bytes h in
-      let answers-all = take_all i answers (rw same h) in
-      rw (s.leads, s.counted, bytes-all, answers-all)
-      (ap (λ (ns : List ℕ). answered (after m₀ (bus_calls bytes)) ns) (sym answers-all ∙ s.told ∙ rw bytes-all))
 
 -- Records sent to a saved controller
 
@@ -156,8 +139,3 @@ pub never_a_count : (s bytes answers : List ℕ) (m : Machine) → is_sendable s
 never_a_count s bytes answers m e =
     let few : refusals (numbers m (bus_calls bytes)) ≤ length bytes = rw (← calls-length bytes, ← numbers-length m (bus_calls bytes)) (refusals_within (numbers m (bus_calls bytes))) in
     lt_of_le_of_lt few (sendable s bytes answers e).2
-
-pub send_saved_lem : (s memory bytes answers : List ℕ) {k : Controller} {o : SendOutcome} {s' : List ℕ} → is_sendable s bytes answers ≡ true
-    → k ≡ controller_of s → o ≡ send_outcome (machine k memory) bytes → s' ≡ saved_bytes o.machine.controller
-    → send_returned (returned o.refused s' o.machine.memory) o.answers ≡ after_send s memory bytes answers
-send_saved_lem s memory bytes answers is e o w = rw (w, is) (ap send_saved o ∙ rw e)

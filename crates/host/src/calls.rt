@@ -40,6 +40,7 @@ pub extern "C" fn granivolche_reset(controller: &mut [u8]) -> u32
 }
 
 #[unsafe(no_mangle)]
+#[tactic(auto, using(crate::proofs::SavedBytes::saved_length, crate::proofs::Outcomes::call_saved, crate::proofs::Outcomes::number_alone))]
 pub extern "C" fn granivolche_command_write(controller: &mut [u8], byte: u8) -> u32
     ensures { (memory : List ℕ) → returned result controller.new memory
         ≡ after_call controller.old memory (command byte) }
@@ -55,6 +56,7 @@ pub extern "C" fn granivolche_command_write(controller: &mut [u8], byte: u8) -> 
 }
 
 #[unsafe(no_mangle)]
+#[tactic(auto, using(crate::proofs::SavedBytes::saved_length, crate::proofs::Outcomes::call_saved, crate::proofs::Outcomes::number_alone))]
 pub extern "C" fn granivolche_data_write(controller: &mut [u8], memory: &mut [u8], byte: u8) -> u32
     ensures { returned result controller.new memory.new
         ≡ after_call controller.old memory.old (write byte) }
@@ -70,6 +72,7 @@ pub extern "C" fn granivolche_data_write(controller: &mut [u8], memory: &mut [u8
 }
 
 #[unsafe(no_mangle)]
+#[tactic(auto, using(crate::proofs::SavedBytes::saved_length, crate::proofs::Outcomes::call_saved))]
 pub extern "C" fn granivolche_data_read(controller: &mut [u8], memory: &[u8]) -> u32
     ensures { returned result controller.new memory.now
         ≡ after_call controller.old memory.now read }
@@ -85,7 +88,7 @@ pub extern "C" fn granivolche_data_read(controller: &mut [u8], memory: &[u8]) ->
 }
 
 #[unsafe(no_mangle)]
-#[tactic(auto, unfolding(crate::specs::Saved::controller_of))]
+#[tactic(auto, using(crate::proofs::SavedBytes::saved_length), unfolding(crate::specs::Saved::controller_of))]
 pub extern "C" fn granivolche_row(
     controller: &[u8],
     memory: &[u8],
@@ -106,6 +109,7 @@ pub extern "C" fn granivolche_row(
 }
 
 #[unsafe(no_mangle)]
+#[tactic(auto, using(crate::proofs::SavedBytes::saved_length))]
 pub extern "C" fn granivolche_frame_size(controller: &[u8]) -> u32
     ensures { result ≡ frame_size_returned controller.now }
 {

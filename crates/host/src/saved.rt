@@ -105,7 +105,7 @@ pub fn read_registers(s: &[u8]) -> Registers
     ensures { result ≡ registers_of s.now }
 {
     let mut c = [0u8; 48];
-    bytes::copy(s, &mut c);
+    c.copy_from_slice(s);
     registers(&c)
 }
 
@@ -116,7 +116,7 @@ pub fn read(s: &[u8]) -> Controller
     ensures { result ≡ controller_of s.now }
 {
     let mut c = [0u8; 48];
-    bytes::copy(s, &mut c);
+    c.copy_from_slice(s);
     Controller {
         registers: registers(&c),
         pending: Pending {
@@ -137,7 +137,6 @@ fn direction_number(d: Direction) -> u8
     }
 }
 
-#[tactic(auto, unfolding(crate::specs::Saved::saved_bytes))]
 fn saved(c: Controller) -> [u8; 48]
     ensures { result ≡ saved_bytes c }
 {
@@ -204,11 +203,10 @@ fn saved(c: Controller) -> [u8; 48]
 }
 
 // A controller into 48 bytes.
-#[tactic(auto, unfolding(crate::specs::Saved::saved_bytes))]
 pub fn write(c: Controller, out: &mut [u8])
     requires { length out.old ≡ 48 }
     ensures { out.new ≡ saved_bytes c }
 {
     let s = saved(c);
-    bytes::copy(&s, out);
+    out.copy_from_slice(&s);
 }

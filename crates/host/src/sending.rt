@@ -67,6 +67,7 @@ fn is_sendable(controller: &[u8], bytes: &[u8], answers: &[u8]) -> bool
 }
 
 #[unsafe(no_mangle)]
+#[tactic(auto, using(crate::proofs::SavedBytes::saved_length, crate::proofs::SentBytes::sendable))]
 pub extern "C" fn granivolche_send(
     controller: &mut [u8],
     memory: &mut [u8],

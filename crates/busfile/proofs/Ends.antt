@@ -6,7 +6,7 @@ use mathlib.Core.Path.{◌≡◌, refl, sym, ◌∙◌}
 use native.Mathlib.Omega.{arith}
 use lib.ListN.{length, drop}
 use borrow.Author.Tests.{ltb-false, le-ltb, ne_eqb}
-use Rattle.choice.specs.Choice.{if◌then◌else◌, ◌<?◌, ◌=?◌}
+use Rattle.choice.specs.Choice.{when◌then◌else◌, ◌<?◌, ◌=?◌}
 use Rattle.busfile.specs.declared.Record as R
 use Rattle.busfile.specs.declared.Shape.{Shape}
 use Rattle.busfile.specs.declared.Shape.TheVariants.{Good, Wrong}
@@ -25,7 +25,7 @@ header l at h =
     rw (ne_eqb (length l - at) 0 (λ e. let z : length l - at ≡ 0 = e in omega arith), le-ltb (length l - at) 4 (omega arith))
 
 -- an end is no record, and a bad one is none
-never : (end : Bool) (r : R.Record) → (if end then End else Bad) ≡ Record r → ⊥
+never : (end : Bool) (r : R.Record) → (when end then End else Bad) ≡ Record r → ⊥
 never true r e = cc
 never false r e = cc
 
@@ -34,7 +34,7 @@ has_header : (l : List ℕ) (at : ℕ) (r : R.Record) → record_at l at ≡ Rec
 unfolding record_at
 has_header l at r e = go (length l - at =? 0) (length l - at <? 4) refl (body_of (shape_at l at) (length l) at (word_of (drop at l))) e
   where
-    go : (end few : Bool) → (length l - at <? 4) ≡ few → (body : Found) → (if end then End else if few then Bad else body) ≡ Record r → at + 4 ≤ length l
+    go : (end few : Bool) → (length l - at <? 4) ≡ few → (body : Found) → (when end then End else when few then Bad else body) ≡ Record r → at + 4 ≤ length l
     go true few t body e = absurd (never true r e)
     go false true t body e = absurd (never false r e)
     go false false t body e = omega (arith, ltb-false (length l - at) 4 t)
@@ -46,7 +46,7 @@ body_ends Wrong n at size r h e = absurd (never false r e)
 body_ends (Good kind) n at size r h e = go (n - (at + 4) <? size) refl e
   where
     go : (cut : Bool) → (n - (at + 4) <? size) ≡ cut
-        → (if cut then Bad else Record (record { kind = kind; start = at + 4; end = at + 4 + size })) ≡ Record r
+        → (when cut then Bad else Record (record { kind = kind; start = at + 4; end = at + 4 + size })) ≡ Record r
         → (r.start ≡ at + 4) × (r.end ≡ at + 4 + size) × (r.end ≤ n)
     go true t e = absurd (never false r e)
     go false t e =
@@ -60,7 +60,7 @@ body_short : (kind n at size : ℕ) (r : R.Record) → body_of (shape_of kind si
 unfolding shape_of
 body_short kind n at size r e = go (65532 <? size) refl _ e
   where
-    go : (over : Bool) → (65532 <? size) ≡ over → (shape : Shape) → body_of (if over then Wrong else shape) n at size ≡ Record r → size ≤ 65532
+    go : (over : Bool) → (65532 <? size) ≡ over → (shape : Shape) → body_of (when over then Wrong else shape) n at size ≡ Record r → size ≤ 65532
     go true t shape e = absurd (never false r e)
     go false t shape e = ltb-false 65532 size t
 

@@ -9,7 +9,7 @@ use native.Mathlib.Omega.{arith}
 use lib.ListN.{length, drop, length-append, length-drop, get_or-append}
 use lib.Seq.{drop-append-add, drop-append-le, take-append-le}
 use borrow.Author.Tests.{ltb-false, le-ltb}
-use Rattle.choice.specs.Choice.{if◌then◌else◌, ◌<?◌, ◌=?◌}
+use Rattle.choice.specs.Choice.{when◌then◌else◌, ◌<?◌, ◌=?◌}
 use Rattle.busfile.specs.declared.Record as R
 use Rattle.busfile.specs.declared.Shape.{Shape}
 use Rattle.busfile.specs.declared.Shape.TheVariants.{Good, Wrong}
@@ -21,7 +21,7 @@ use Rattle.busfile.proofs.Ends.{shape_at, header, body_ends}
 
 -- Bytes before
 
-further_if : (k : ℕ) (test : Bool) (x y : Found) → further k (if test then x else y) ≡ (if test then further k x else further k y)
+further_if : (k : ℕ) (test : Bool) (x y : Found) → further k (when test then x else y) ≡ (when test then further k x else further k y)
 further_if k true x y = refl
 further_if k false x y = refl
 

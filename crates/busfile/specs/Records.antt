@@ -1,6 +1,6 @@
 -- Reference, 'Bus files'; 01, 'Bus file and its program': records.
 use Rattle.std.specs.Prelude.{ℕ, ◌+◌, ◌-◌, ◌*◌, List, ◌++◌, length, get_or, take, drop}
-use Rattle.choice.specs.Choice.{if◌then◌else◌, ◌<?◌, ◌=?◌}
+use Rattle.choice.specs.Choice.{when◌then◌else◌, ◌<?◌, ◌=?◌}
 use Rattle.busfile.specs.declared.Kind.{Kind}
 use Rattle.busfile.specs.declared.Kind.TheVariants.{Bus, Reads, Frame}
 use Rattle.busfile.specs.declared.Shape.{Shape}
@@ -24,24 +24,24 @@ kind_number Frame = 3
 -- Bus: at least 1 byte. Reads: a 2-byte count. Frame: a 4-byte frame number. A length above 65,532 is wrong.
 unfoldable pub shape_of : ℕ → ℕ → Shape
 shape_of kind size =
-    if 65532 <? size then Wrong
-    else if kind =? kind_number Bus then (if size =? 0 then Wrong else Good Bus)
-    else if kind =? kind_number Reads then (if size =? 2 then Good Reads else Wrong)
-    else if kind =? kind_number Frame then (if size =? 4 then Good Frame else Wrong)
+    when 65532 <? size then Wrong
+    else when kind =? kind_number Bus then (when size =? 0 then Wrong else Good Bus)
+    else when kind =? kind_number Reads then (when size =? 2 then Good Reads else Wrong)
+    else when kind =? kind_number Frame then (when size =? 4 then Good Frame else Wrong)
     else Wrong
 
 -- a record whose header stands at a place: cut, where it does not end within the file
 abbrev pub body_of : Shape → ℕ → ℕ → ℕ → Found
 body_of Wrong file at size = Bad
 body_of (Good kind) file at size =
-    if file - (at + 4) <? size then Bad
+    when file - (at + 4) <? size then Bad
     else Record (record { kind = kind; start = at + 4; end = at + 4 + size })
 
 -- what stands at a place: payload length, kind, payload. Another kind, a wrong length or a cut record is bad.
 unfoldable pub record_at : List ℕ → ℕ → Found
 record_at s at =
-    if length s - at =? 0 then End
-    else if length s - at <? 4 then Bad
+    when length s - at =? 0 then End
+    else when length s - at <? 4 then Bad
     else body_of (shape_of (word_of (drop (at + 2) s)) (word_of (drop at s))) (length s) at (word_of (drop at s))
 
 -- the part of a list from start to end

@@ -8,7 +8,7 @@ use lib.Bits.{bit_and, bit_or, bit_xor, or_shr, or_mod, xor_shr, xor_mod, and_sh
 use lib.Dec.{eqb→eq}
 use lib.Pow.{pow_pos}
 use borrow.Author.Tests.{ne_eqb, le-ltb}
-use Rattle.choice.specs.Choice.{if◌then◌else◌, ◌=?◌}
+use Rattle.choice.specs.Choice.{when◌then◌else◌, ◌=?◌}
 use Rattle.choice.proofs.Below.{all_below, all_below_lem, below2, below4}
 use Rattle.dots.specs.Mixing.{first_of, mix}
 use Rattle.dots.specs.Bytes.{bits_per_dot, dot_of}
@@ -44,7 +44,7 @@ first_lt : (k a b : ℕ) → a < k → b < k → first_of a b 0 < k
 unfolding first_of
 first_lt k a b ha hb = go (a =? 0) (b =? 0)
   where
-    go : (x y : Bool) → (if x then (if y then 0 else b) else a) < k
+    go : (x y : Bool) → (when x then (when y then 0 else b) else a) < k
     go true true = omega arith
     go true false = hb
     go false y = ha
@@ -87,10 +87,10 @@ mix_dots mx grey n a b j h l = go (mx =? 0) (mx =? 1) (mx =? 2)
     k = bits_per_dot grey
 
     go : (x y z : Bool)
-        → dot_of k (if x then bit_or a b else if y then bit_xor a b else if z then bit_and a b else first_byte grey a b) j
-        ≡ (if x then bit_or (bit_or (dot_of k a j) (dot_of k b j)) 0
-        else if y then bit_or (bit_xor (dot_of k a j) (dot_of k b j)) 0
-        else if z then bit_or (bit_and (dot_of k a j) (dot_of k b j)) 0
+        → dot_of k (when x then bit_or a b else when y then bit_xor a b else when z then bit_and a b else first_byte grey a b) j
+        ≡ (when x then bit_or (bit_or (dot_of k a j) (dot_of k b j)) 0
+        else when y then bit_or (bit_xor (dot_of k a j) (dot_of k b j)) 0
+        else when z then bit_or (bit_and (dot_of k a j) (dot_of k b j)) 0
         else first_of (dot_of k a j) (dot_of k b j) 0)
     go true y z = dot_or k a b j ∙ sym (or_zero_r _)
     go false true z = dot_xor k a b j ∙ sym (or_zero_r _)

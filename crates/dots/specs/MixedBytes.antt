@@ -2,7 +2,7 @@
 -- `mix_steps` in proofs/MixedBytes.
 use Rattle.std.specs.Prelude.{ℕ, ◌+◌, ◌*◌, ◌/◌, ◌%◌}
 use Rattle.std.specs.Int.Bits.{bit_and, bit_or, bit_xor}
-use Rattle.choice.specs.Choice.{if◌then◌else◌, ◌<?◌, ◌=?◌}
+use Rattle.choice.specs.Choice.{when◌then◌else◌, ◌<?◌, ◌=?◌}
 use Rattle.dots.specs.Mixing.{first_of}
 
 -- the first of two that isn't 0, for each pair of bits, and for each half of a byte; it is below 4, or 16, without the outer remainder
@@ -16,16 +16,16 @@ first_nibbles a b = first_of (a / 16 % 16) (b / 16 % 16) 0 % 16 * 16 + first_of 
 
 -- the first that isn't 0 of each group of bits at a grey code; at one bit it is the OR
 unfoldable pub first_byte : ℕ → ℕ → ℕ → ℕ
-first_byte grey a b = if grey =? 0 then bit_or a b else if grey =? 1 then first_pairs a b else first_nibbles a b
+first_byte grey a b = when grey =? 0 then bit_or a b else when grey =? 1 then first_pairs a b else first_nibbles a b
 
 -- the bytes of two layers mixed
 unfoldable pub mix_byte : ℕ → ℕ → ℕ → ℕ → ℕ
 mix_byte mx grey a b =
-    if mx =? 0 then bit_or a b
-    else if mx =? 1 then bit_xor a b
-    else if mx =? 2 then bit_and a b
+    when mx =? 0 then bit_or a b
+    else when mx =? 1 then bit_xor a b
+    else when mx =? 2 then bit_and a b
     else first_byte grey a b
 
 -- MX for layer 3 with the mix of layers 1 and 2: OR, or again the first that isn't 0
 unfoldable pub third_mix : ℕ → ℕ
-third_mix mx = if mx <? 3 then 0 else mx
+third_mix mx = when mx <? 3 then 0 else mx

@@ -1,16 +1,16 @@
 -- Reference, 'Mixing'; 01, 'Blocks and layers of a row': MX, on dot values.
 use Rattle.std.specs.Prelude.{ℕ}
 use Rattle.std.specs.Int.Bits.{bit_and, bit_or, bit_xor}
-use Rattle.choice.specs.Choice.{if◌then◌else◌, ◌=?◌}
+use Rattle.choice.specs.Choice.{when◌then◌else◌, ◌=?◌}
 
 -- the first that isn't 0
 unfoldable pub first_of : ℕ → ℕ → ℕ → ℕ
-first_of l1 l2 l3 = if l1 =? 0 then (if l2 =? 0 then l3 else l2) else l1
+first_of l1 l2 l3 = when l1 =? 0 then (when l2 =? 0 then l3 else l2) else l1
 
 -- 00 OR of all layers; 01 (L1 XOR L2) OR L3; 10 (L1 AND L2) OR L3; 11 the first layer with a dot that isn't 0
 unfoldable pub mix : ℕ → ℕ → ℕ → ℕ → ℕ
 mix mx l1 l2 l3 =
-    if mx =? 0 then bit_or (bit_or l1 l2) l3
-    else if mx =? 1 then bit_or (bit_xor l1 l2) l3
-    else if mx =? 2 then bit_or (bit_and l1 l2) l3
+    when mx =? 0 then bit_or (bit_or l1 l2) l3
+    else when mx =? 1 then bit_or (bit_xor l1 l2) l3
+    else when mx =? 2 then bit_or (bit_and l1 l2) l3
     else first_of l1 l2 l3

@@ -39,13 +39,7 @@ fn two_lines(memory: &mut [u8]) -> Controller {
     sent(c, memory, 0, 4, 1)
 }
 
-fn ask(
-    rt: &impl Print,
-    c: Controller,
-    memory: &[u8],
-    font: &[u8],
-    row: u32,
-) -> io::Result<()> {
+fn ask(rt: &impl Print, c: Controller, memory: &[u8], font: &[u8], row: u32) -> io::Result<()> {
     let mut out = [0u8; 8];
     let answer = c.row(memory, font, 0, row, &mut out);
     let number = match answer {

@@ -1,6 +1,6 @@
 -- Reference, 'The library': a controller as 48 bytes, words low byte first, a flag 0 or 1.
 use Rattle.std.specs.Prelude.{ℕ, ◌+◌, ◌*◌, ◌/◌, ◌%◌, ◌<◌, Bool, true, ◌&&◌, List, [], ◌∷◌, ◌≡◌, length, get_or}
-use Rattle.choice.specs.Choice.{if◌then◌else◌, ◌<?◌, ◌=?◌}
+use Rattle.choice.specs.Choice.{when◌then◌else◌, ◌<?◌, ◌=?◌}
 use Rattle.registers.specs.declared.Direction.{Direction}
 use Rattle.registers.specs.declared.Direction.TheVariants.{Right, Left, Up, Down}
 use Rattle.registers.specs.declared.Code.{Code}
@@ -33,7 +33,7 @@ word_at s i = byte_at s i + 256 * byte_at s (i + 1)
 
 -- in the order of 4C to 4F
 unfoldable pub direction_numbered : ℕ → Direction
-direction_numbered n = if n <? 4 then direction_of (0x4C + n) else Right
+direction_numbered n = when n <? 4 then direction_of (0x4C + n) else Right
 
 abbrev pub system_of : List ℕ → System
 system_of s =
@@ -83,7 +83,7 @@ controller_of s = record { registers = registers_of s; pending = record { comman
 -- Saving. A pending command is the first code of its row of the command table, 0 where there is none
 
 abbrev pub flag : Bool → ℕ
-flag b = if b then 1 else 0
+flag b = when b then 1 else 0
 
 abbrev pub low : ℕ → ℕ
 low w = w % 256

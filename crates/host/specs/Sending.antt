@@ -1,6 +1,6 @@
 -- Reference, 'The library': a record of kind 1 sent to a saved controller, with an answer byte for each of its bytes.
 use Rattle.std.specs.Prelude.{ℕ, ◌+◌, Bool, ◌&&◌, List, [], ◌∷◌, map, length}
-use Rattle.choice.specs.Choice.{if◌then◌else◌, ◌<?◌, ◌=?◌}
+use Rattle.choice.specs.Choice.{when◌then◌else◌, ◌<?◌, ◌=?◌}
 use Rattle.model.specs.Machine.{Machine, machine}
 use Rattle.model.specs.Calls.{BusCall, bus_calls, after, outcomes}
 use Rattle.host.specs.declared.Sent.{Sent}
@@ -12,7 +12,7 @@ abbrev pub numbers : Machine → List BusCall → List ℕ
 numbers m cs = map (λ o. o.reply.refusal) (outcomes m cs)
 
 abbrev pub refusal_count : ℕ → ℕ
-refusal_count number = if number =? 0 then 0 else 1
+refusal_count number = when number =? 0 then 0 else 1
 
 -- how many of them are refusals
 abbrev pub refusals : List ℕ → ℕ
@@ -55,5 +55,5 @@ send_saved o = send_returned (saving o.refused o.machine) o.answers
 
 abbrev pub after_send : List ℕ → List ℕ → List ℕ → List ℕ → SendReturned
 after_send s memory bytes answers =
-    if is_sendable s bytes answers then send_saved (send_outcome (machine (controller_of s) memory) bytes)
+    when is_sendable s bytes answers then send_saved (send_outcome (machine (controller_of s) memory) bytes)
     else send_returned (returned nothing_sent s memory) answers

@@ -6,12 +6,12 @@ use Rattle.std.proofs.Math.Numerals.{add-one}
 use Rattle.std.proofs.Math.Dec.{eqb→eq}
 use Rattle.std.proofs.lemmas.List.{length_push, take_more_set}
 use Rattle.std.proofs.lemmas.Bool.{lt-ltb, le-ltb, ltb-false}
-use Rattle.choice.specs.Choice.{if◌then◌else◌, ◌<?◌}
+use Rattle.choice.specs.Choice.{when◌then◌else◌, ◌<?◌}
 use Rattle.choice.proofs.Below.{all_below_lem}
 use Rattle.lines.specs.Lines.{digit, hex_digit, decimal_below}
 
 abbrev code : ℕ → ℕ
-code d = if d <? 10 then 0x30 + d else 0x37 + d
+code d = when d <? 10 then 0x30 + d else 0x37 + d
 
 -- the characters of the digits follow each other, but for a gap before A
 pub digit_code : (d : ℕ) → d < 16 → digit d ≡ code d
@@ -27,7 +27,7 @@ any_bound (suc j) (suc k) n h l = go (n <? 10) refl (λ e. any_bound j k (n / 10
   where
     go : (b : Bool) → (n <? 10) ≡ b
         → ((n <? 10) ≡ false → decimal_below j (n / 10) ≡ decimal_below k (n / 10))
-        → (if b then [] else decimal_below j (n / 10)) ++ (digit (n % 10) ∷ []) ≡ (if b then [] else decimal_below k (n / 10)) ++ (digit (n % 10) ∷ [])
+        → (when b then [] else decimal_below j (n / 10)) ++ (digit (n % 10) ∷ []) ≡ (when b then [] else decimal_below k (n / 10)) ++ (digit (n % 10) ∷ [])
     go true e f = refl
     go false e f = ap (λ l. l ++ (digit (n % 10) ∷ [])) (f e)
 

@@ -3,7 +3,7 @@ use Rattle.std.proofs.Common.{ℕ, zero, suc, ◌+◌, ◌*◌, ◌/◌, ◌%◌
 use Rattle.std.proofs.Math.Nat.{pow-suc, div-lt_iff_lt-mul}
 use Rattle.std.proofs.lemmas.Bool.{ltb-false}
 use Rattle.std.proofs.lemmas.List.{length-map}
-use Rattle.choice.specs.Choice.{if◌then◌else◌, ◌<?◌}
+use Rattle.choice.specs.Choice.{when◌then◌else◌, ◌<?◌}
 use Rattle.lines.specs.Lines.{digit, decimal_below, decimal, row_line, longest_line}
 use Rattle.lines.specs.Pieces.{with_numbers}
 
@@ -13,7 +13,7 @@ digits-length zero n j h = omega arith
 digits-length (suc k) n j h = go (n <? 10) refl j h (λ j l. digits-length k (n / 10) j l)
   where
     go : (b : Bool) → (n <? 10) ≡ b → (j : ℕ) → n < 10 ^ suc j → ((j : ℕ) → n / 10 < 10 ^ suc j → length (decimal_below k (n / 10)) ≤ suc j)
-        → length ((if b then [] else decimal_below k (n / 10)) ++ (digit (n % 10) ∷ [])) ≤ suc j
+        → length ((when b then [] else decimal_below k (n / 10)) ++ (digit (n % 10) ∷ [])) ≤ suc j
     go true e j h f = omega arith
     go false e zero h f = absurd (omega (arith, h, ltb-false n 10 e))
     go false e (suc j) h f = rw length-append (omega (arith, f j ((div-lt_iff_lt-mul (omega arith)).1 (rw pow-suc at h))))

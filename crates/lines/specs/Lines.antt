@@ -2,7 +2,7 @@
 use Prim.Native.Char.{code}
 use Rattle.std.specs.Prelude.{ℕ, zero, suc, ◌+◌, ◌/◌, ◌%◌, List, [], ◌∷◌, ◌++◌, map, length, get_or, take, drop}
 use Prim.Native.String.{String, [] as none, ◌∷◌ as ◌then◌}
-use Rattle.choice.specs.Choice.{if◌then◌else◌, ◌<?◌, ◌≤?◌}
+use Rattle.choice.specs.Choice.{when◌then◌else◌, ◌<?◌, ◌≤?◌}
 use Rattle.lines.specs.declared.Line.{Line}
 use Rattle.lines.specs.declared.Line.TheVariants.{Refused, Read, Frame, Bad, End}
 
@@ -22,7 +22,7 @@ hex_digit n = digit (n % 16)
 -- the decimal digits of n, which is below k: those before the last, where there are any, and the last
 unfoldable pub decimal_below : ℕ → ℕ → List ℕ
 decimal_below zero n = []
-decimal_below (suc k) n = (if n <? 10 then [] else decimal_below k (n / 10)) ++ (digit (n % 10) ∷ [])
+decimal_below (suc k) n = (when n <? 10 then [] else decimal_below k (n / 10)) ++ (digit (n % 10) ∷ [])
 
 -- a blank and a number: decimal, without leading zeros
 unfoldable pub decimal : ℕ → List ℕ
@@ -63,12 +63,12 @@ row_line dots = map hex_digit dots ++ ascii "\n"
 -- a buffer of which the first bytes are used, with a text behind them where it fits
 abbrev pub appended : List ℕ → ℕ → List ℕ → List ℕ
 appended buffer used text =
-    if used + length text ≤? length buffer then take used buffer ++ (text ++ drop (used + length text) buffer)
+    when used + length text ≤? length buffer then take used buffer ++ (text ++ drop (used + length text) buffer)
     else buffer
 
 -- how many are used then
 abbrev pub used_after : List ℕ → ℕ → List ℕ → ℕ
-used_after buffer used text = if used + length text ≤? length buffer then used + length text else used
+used_after buffer used text = when used + length text ≤? length buffer then used + length text else used
 
 -- the longest line that is printed: a row of 640 dots and its end
 abbrev pub longest_line : ℕ

@@ -40,8 +40,8 @@ a_refresh =
       order = nine;
       once = λ c. refl;
       memory = replicate memory_size 0;
-      memory-bytes = all_replicate Byte 0 (lit< tt) memory_size;
-      memory-full = length-replicate {A = ℕ} memory_size 0;
+      memory_bytes = all_replicate Byte 0 (lit< tt) memory_size;
+      memory_full = length-replicate {A = ℕ} memory_size 0;
     }
 
 pub demand_3 : Demand3

@@ -1,7 +1,7 @@
 -- The table of edges holds: one test that is computed over all of it.
 use Rattle.std.proofs.Common.{◌≡◌, ℕ, Bool, true, ◌&&◌, T, List, [], ◌∷◌, length, set, refl, ap, ◌∙◌, arith, eqb→eq, get_or-set_same, eq-eqb}
 use Rattle.registers.specs.declared.Command.TheVariants.{Mwrite}
-use Rattle.choice.specs.Choice.{if◌then◌else◌, ◌<?◌, ◌=?◌}
+use Rattle.choice.specs.Choice.{when◌then◌else◌, ◌<?◌, ◌=?◌}
 use Rattle.choice.proofs.Below.{both}
 use Rattle.registers.specs.Commands.{command_of, ◌is◌, parameters}
 use Rattle.registers.specs.Parameters.{begin, store, store_system, store_display, store_blocks, store_form, store_overlay, direction_of, with_low, with_high, allowed, system_allows, form_allows}
@@ -27,9 +27,9 @@ sized_call m (command b) = command_write m b
 sized_call m (write b) =
     let c = m.controller in
     let address = c.registers.cursor.address in
-    if served c is Mwrite
-    then if address <? memory_size then accept (accessed c) (set m.memory address b) else refuse 7 (accessed c) m.memory
-    else if c.pending.place <? parameters (served c) then write_parameter m b
+    when served c is Mwrite
+    then when address <? memory_size then accept (accessed c) (set m.memory address b) else refuse 7 (accessed c) m.memory
+    else when c.pending.place <? parameters (served c) then write_parameter m b
     else refuse 3 c m.memory
 sized_call m read = data_read m
 

@@ -5,7 +5,7 @@ use Rattle.registers.specs.declared.Command.TheVariants.{None, SystemSet, SleepI
 use Rattle.registers.specs.declared.Direction.{Direction}
 use Rattle.registers.specs.declared.Direction.TheVariants.{Right, Left, Up, Down}
 use Rattle.registers.specs.declared.Registers.{Registers}
-use Rattle.choice.specs.Choice.{if◌then◌else◌}
+use Rattle.choice.specs.Choice.{when◌then◌else◌}
 use Rattle.registers.specs.Commands.{command_of, code, ◌is◌}
 use Rattle.registers.specs.Parameters.{begin, store, store_system, store_display, store_blocks, store_form, store_overlay, direction_of, with_low, allowed, system_allows, form_allows, reset_registers}
 use Rattle.registers.specs.Cursor.{next_address}
@@ -18,11 +18,11 @@ use Rattle.model.specs.Bus.{ignored, display_off, command_write, served, data_wr
 use Rattle.model.specs.Calls.{BusCall, command, write, after, reset}
 use Rattle.model.specs.Refresh.{All, Byte, occurrences, nine, eleven, Refresh, send, sends, without}
 use Rattle.model.specs.Demand.{OnBus, Accepted, Only7, Prior, reached, rest, Differ, EachNeeded}
-use Rattle.model.proofs.Runs.{Runs, runs_none, runs-cons, runs_append, runs_weaker}
+use Rattle.model.proofs.Runs.{Runs, runs_none, runs_cons, runs_append, runs_weaker}
 use Rattle.model.proofs.Steps.{at, next, writing, travel, spilled}
 use Rattle.model.proofs.Ten.{Ten, of_ten}
 use Rattle.model.proofs.Seen.{none, adds, adds_without, all_counted, all_without}
-use Rattle.model.proofs.Settles.{order-ten, settling, settling-run, write-begun, runs-sends}
+use Rattle.model.proofs.Settles.{order_ten, settling, settling_run, write_begun, runs_sends}
 
 -- Two controllers from reset, the second after a list that makes a number of c's registers 1
 
@@ -34,9 +34,9 @@ direction_number Down = 3
 
 abbrev observe : Command → Registers → ℕ
 observe None x = 0
-observe SystemSet x = if x.system.iv then 1 else 0
+observe SystemSet x = when x.system.iv then 1 else 0
 observe SleepIn x = 0
-observe Disp x = if x.display.on then 1 else 0
+observe Disp x = when x.display.on then 1 else 0
 observe Scroll x = x.blocks.sad1
 observe CsrForm x = x.form.crx.0
 observe CsrDir x = direction_number x.cursor.direction
@@ -50,10 +50,10 @@ observe Mwrite x = 0
 observe Mread x = 0
 
 abbrev probe_code : Command → ℕ
-probe_code c = if c is Disp then 0x59 else if c is CsrDir then 0x4D else code c
+probe_code c = when c is Disp then 0x59 else when c is CsrDir then 0x4D else code c
 
 abbrev probe_byte : Command → ℕ
-probe_byte c = if c is SystemSet then 0x30 else 1
+probe_byte c = when c is SystemSet then 0x30 else 1
 
 -- 4D takes no parameter, so its data write is refused
 abbrev probe : Command → List BusCall
@@ -83,14 +83,14 @@ module _ (memory : List ℕ) (full : length memory ≡ memory_size) where
   probed =
       of_ten (Probed memory)
       (record {
-        system-set = told SystemSet (stored SystemSet) (omega arith) (rw (eq-eqb _ _ full, after)) refl refl (refl, (λ e. refl), omega arith);
+        system_set = told SystemSet (stored SystemSet) (omega arith) (rw (eq-eqb _ _ full, after)) refl refl (refl, (λ e. refl), omega arith);
         scroll = told Scroll (stored Scroll) (omega arith) (rw (eq-eqb _ _ full, after)) refl refl (refl, (λ e. refl), omega arith);
-        csr-form = told CsrForm (stored CsrForm) (omega arith) (rw (eq-eqb _ _ full, after)) refl refl (refl, (λ e. refl), omega arith);
-        csr-dir = told CsrDir (controller (begin CsrDir 0x4D reset_registers) CsrDir 0) (omega arith) (rw (eq-eqb _ _ full, after)) refl refl (refl, absurd, omega arith);
+        csr_form = told CsrForm (stored CsrForm) (omega arith) (rw (eq-eqb _ _ full, after)) refl refl (refl, (λ e. refl), omega arith);
+        csr_dir = told CsrDir (controller (begin CsrDir 0x4D reset_registers) CsrDir 0) (omega arith) (rw (eq-eqb _ _ full, after)) refl refl (refl, absurd, omega arith);
         ovlay = told Ovlay (stored Ovlay) (omega arith) (rw (eq-eqb _ _ full, after)) refl refl (refl, (λ e. refl), omega arith);
-        cgram-adr = told CgramAdr (stored CgramAdr) (omega arith) (rw (eq-eqb _ _ full, after)) refl refl (refl, (λ e. refl), omega arith);
-        hdot-scr = told HdotScr (stored HdotScr) (omega arith) (rw (eq-eqb _ _ full, after)) refl refl (refl, (λ e. refl), omega arith);
-        grey-scale = told GrayScale (stored GrayScale) (omega arith) (rw (eq-eqb _ _ full, after)) refl refl (refl, (λ e. refl), omega arith);
+        cgram_adr = told CgramAdr (stored CgramAdr) (omega arith) (rw (eq-eqb _ _ full, after)) refl refl (refl, (λ e. refl), omega arith);
+        hdot_scr = told HdotScr (stored HdotScr) (omega arith) (rw (eq-eqb _ _ full, after)) refl refl (refl, (λ e. refl), omega arith);
+        grey_scale = told GrayScale (stored GrayScale) (omega arith) (rw (eq-eqb _ _ full, after)) refl refl (refl, (λ e. refl), omega arith);
         disp = told Disp (stored Disp) (omega arith) (rw (eq-eqb _ _ full, after)) refl refl (refl, (λ e. refl), omega arith);
         csrw = told Csrw (stored Csrw) (omega arith) (rw (eq-eqb _ _ full, after)) refl refl (refl, (λ e. refl), omega arith);
       })
@@ -120,37 +120,37 @@ rightwards x awake address (b ∷ bs) d h = ap (λ (n : ℕ). travel x awake n b
 
 -- what MWRITE adds to the number of c
 abbrev gain : Command → ℕ
-gain c = if c is Csrw then memory_size else 0
+gain c = when c is Csrw then memory_size else 0
 
 module _ (r : Refresh) where
   abbrev seen : Command → Command → Bool
   seen c = adds (without c (SystemSet ∷ r.order)) none
 
-  ten-run : (c : Command) (s : Controller) (memory : List ℕ) → length memory ≡ memory_size → s.registers.asleep ≡ false
+  ten_run : (c : Command) (s : Controller) (memory : List ℕ) → length memory ≡ memory_size → s.registers.asleep ≡ false
       → (pending : Pending)
       × Runs Only7 (machine s memory) (sends r (without c (SystemSet ∷ r.order))) (machine (record { registers = settling r (seen c) s.registers; pending = pending }) memory)
       × ((settling r (seen c) s.registers).asleep ≡ false)
-  ten-run c s memory full awake =
-      let t = settling-run r (without c (SystemSet ∷ r.order)) (all_without Ten c (SystemSet ∷ r.order) (omega arith, order-ten r)) none s.registers s.pending memory full awake in
+  ten_run c s memory full awake =
+      let t = settling_run r (without c (SystemSet ∷ r.order)) (all_without Ten c (SystemSet ∷ r.order) (omega arith, order_ten r)) none s.registers s.pending memory full awake in
       (t.0, runs_weaker only_7 t.1, t.2)
 
-  rest-parts : (c : Command) {m m' : Machine} → Runs Only7 m (sends r (without c (SystemSet ∷ r.order) ++ without c (Mwrite ∷ []))) m' → Runs Only7 m (rest r c) m'
-  rest-parts c h = rw (without-append c (SystemSet ∷ r.order) (Mwrite ∷ [])) h
+  rest_parts : (c : Command) {m m' : Machine} → Runs Only7 m (sends r (without c (SystemSet ∷ r.order) ++ without c (Mwrite ∷ []))) m' → Runs Only7 m (rest r c) m'
+  rest_parts c h = rw (without-append c (SystemSet ∷ r.order) (Mwrite ∷ [])) h
 
   -- and MWRITE after them
-  rest-run : (c : Command) → (c is Mwrite) ≡ false → (s : Controller) (memory : List ℕ) → length memory ≡ memory_size → s.registers.asleep ≡ false
+  rest_run : (c : Command) → (c is Mwrite) ≡ false → (s : Controller) (memory : List ℕ) → length memory ≡ memory_size → s.registers.asleep ≡ false
       → (awake : (settling r (seen c) s.registers).asleep ≡ false) × (memory' : List ℕ)
       × (let x = settling r (seen c) s.registers in Runs Only7 (machine s memory) (rest r c) (writing x (travel x awake x.cursor.address r.memory) memory'))
-  rest-run c n s memory full awake =
+  rest_run c n s memory full awake =
       let x = settling r (seen c) s.registers in
-      let t = ten-run c s memory full awake in
+      let t = ten_run c s memory full awake in
       let k = spilled x t.2 x.cursor.address memory r.memory full in (
         t.2,
         k.0,
-        rest-parts c
+        rest_parts c
             (rw n
-            (runs-sends r (without c (SystemSet ∷ r.order)) (Mwrite ∷ []) t.1
-            (runs_append (send r Mwrite) (runs-cons (write-begun r x t.0 memory t.2) (inl refl) k.1) runs_none))),
+            (runs_sends r (without c (SystemSet ∷ r.order)) (Mwrite ∷ []) t.1
+            (runs_append (send r Mwrite) (runs_cons (write_begun r x t.0 memory t.2) (inl refl) k.1) runs_none))),
       )
 
   -- what c alone sets stays as it was
@@ -158,12 +158,12 @@ module _ (r : Refresh) where
   Stays c = (seen : Command → Bool) → seen c ≡ false → (x : Registers) → Fit c x → (awake : (settling r seen x).asleep ≡ false)
       → let y = settling r seen x in observe c (at y (travel y awake y.cursor.address r.memory)) ≡ observe c x + gain c
 
-  stays-csrw : Stays Csrw
-  stays-csrw seen h x f awake =
+  stays_csrw : Stays Csrw
+  stays_csrw seen h x f awake =
       let y = settling r seen x in
-      rightwards y awake y.cursor.address r.memory (go (seen CsrDir)) (omega (arith, address, r.memory-full, f.2)) ∙ rw (address, r.memory-full)
+      rightwards y awake y.cursor.address r.memory (go (seen CsrDir)) (omega (arith, address, r.memory_full, f.2)) ∙ rw (address, r.memory_full)
     where
-      go : (t : Bool) → (if t then Right else x.cursor.direction) ≡ Right
+      go : (t : Bool) → (when t then Right else x.cursor.direction) ≡ Right
       go true = refl
       go false = f.1 tt
 
@@ -174,22 +174,22 @@ module _ (r : Refresh) where
   stays =
       of_ten Stays
       (record {
-        system-set = λ seen h x f awake. rw (h, add-zero);
+        system_set = λ seen h x f awake. rw (h, add-zero);
         scroll = λ seen h x f awake. rw (h, add-zero);
-        csr-form = λ seen h x f awake. rw (h, add-zero);
-        csr-dir = λ seen h x f awake. rw (h, add-zero);
+        csr_form = λ seen h x f awake. rw (h, add-zero);
+        csr_dir = λ seen h x f awake. rw (h, add-zero);
         ovlay = λ seen h x f awake. rw (h, add-zero);
-        cgram-adr = λ seen h x f awake. rw (h, add-zero);
-        hdot-scr = λ seen h x f awake. rw (h, add-zero);
-        grey-scale = λ seen h x f awake. rw (h, add-zero);
+        cgram_adr = λ seen h x f awake. rw (h, add-zero);
+        hdot_scr = λ seen h x f awake. rw (h, add-zero);
+        grey_scale = λ seen h x f awake. rw (h, add-zero);
         disp = λ seen h x f awake. rw (h, add-zero);
-        csrw = stays-csrw;
+        csrw = stays_csrw;
       })
 
-  number-left : (c : Command) → Ten c → (c is Mwrite) ≡ false → (s : Controller) (memory : List ℕ) → length memory ≡ memory_size → Fit c s.registers
+  number_left : (c : Command) → Ten c → (c is Mwrite) ≡ false → (s : Controller) (memory : List ℕ) → length memory ≡ memory_size → Fit c s.registers
       → (m : Machine) × Runs Only7 (machine s memory) (rest r c) m × (observe c m.controller.registers ≡ observe c s.registers + gain c)
-  number-left c h n s memory full f =
-      let t = rest-run c n s memory full f.0 in
+  number_left c h n s memory full f =
+      let t = rest_run c n s memory full f.0 in
       let x = settling r (seen c) s.registers in (
         writing x (travel x t.0 x.cursor.address r.memory) t.1,
         t.2,
@@ -210,14 +210,14 @@ differs r c p₁ p₂ see n h₁ e₁ h₂ e₂ =
     }
 
 abbrev prior : (memory : List ℕ) → All Byte memory → length memory ≡ memory_size → (calls : List BusCall) → All OnBus calls → Prior
-prior memory b full calls cb = record { memory = memory; memory-bytes = b; memory-full = full; calls = calls; calls-bytes = cb }
+prior memory b full calls cb = record { memory = memory; memory_bytes = b; memory_full = full; calls = calls; calls_bytes = cb }
 
 needed_ten : (r : Refresh) (c : Command) → Ten c → (c is Mwrite) ≡ false → Differ r c
 needed_ten r c h n =
-    let p = probed r.memory r.memory-full c h in
-    let a = number-left r c h n (reset r.memory).controller r.memory r.memory-full (refl, (λ e. refl), omega arith) in
-    let b = number-left r c h n p.left r.memory r.memory-full p.fit in
-    differs r c (prior r.memory r.memory-bytes r.memory-full [] tt) (prior r.memory r.memory-bytes r.memory-full (probe c) p.bytes) (λ m. observe c m.controller.registers) (gain c)
+    let p = probed r.memory r.memory_full c h in
+    let a = number_left r c h n (reset r.memory).controller r.memory r.memory_full (refl, (λ e. refl), omega arith) in
+    let b = number_left r c h n p.left r.memory r.memory_full p.fit in
+    differs r c (prior r.memory r.memory_bytes r.memory_full [] tt) (prior r.memory r.memory_bytes r.memory_full (probe c) p.bytes) (λ m. observe c m.controller.registers) (gain c)
     a.1 (a.2 ∙ ap (λ (k : ℕ). k + gain c) p.unset ∙ omega arith)
     (subst (λ (m : Machine). Runs Only7 m (rest r c) b.0) (sym p.leads) b.1) (b.2 ∙ ap (λ (k : ℕ). k + gain c) p.one ∙ omega arith)
 
@@ -236,19 +236,19 @@ needed_mwrite r =
     changed b = set r.memory 0 b
 
     full : (b : ℕ) → length (changed b) ≡ memory_size
-    full b = length-set r.memory 0 b ∙ r.memory-full
+    full b = length-set r.memory 0 b ∙ r.memory_full
 
     byte : (b : ℕ) → get_or (changed b) 0 0 ≡ b
-    byte b = get_or-set_same r.memory 0 b 0 (omega (arith, r.memory-full))
+    byte b = get_or-set_same r.memory 0 b 0 (omega (arith, r.memory_full))
 
     first : (b : ℕ) → Byte b → Prior
-    first b h = prior (changed b) (bytes_set r.memory 0 b h r.memory-bytes) (full b) [] tt
+    first b h = prior (changed b) (bytes_set r.memory 0 b h r.memory_bytes) (full b) [] tt
 
     run : (b : ℕ) (h : Byte b) → (c : Controller) × Runs Only7 (reached (first b h)) (rest r Mwrite) (machine c (changed b))
     run b h =
-        let t = ten-run r Mwrite (reset (changed b)).controller (changed b) (full b) refl in (
+        let t = ten_run r Mwrite (reset (changed b)).controller (changed b) (full b) refl in (
           record { registers = settling r (seen r Mwrite) reset_registers; pending = t.0 },
-          rest-parts r Mwrite (runs-sends r (without Mwrite (SystemSet ∷ r.order)) [] t.1 runs_none),
+          rest_parts r Mwrite (runs_sends r (without Mwrite (SystemSet ∷ r.order)) [] t.1 runs_none),
         )
 
 pub needed : EachNeeded

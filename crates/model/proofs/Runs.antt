@@ -14,8 +14,8 @@ module _ {P : Outcome → Type 0} where
   pub runs_none : {m : Machine} → Runs P m [] m
   runs_none = record { leads = refl; answered = tt }
 
-  pub runs-cons : {m : Machine} {c : BusCall} {cs : List BusCall} {o : Outcome} {m' : Machine} → call m c ≡ o → P o → Runs P o.machine cs m' → Runs P m (c ∷ cs) m'
-  runs-cons {cs = cs} {m' = m'} e p k =
+  pub runs_cons : {m : Machine} {c : BusCall} {cs : List BusCall} {o : Outcome} {m' : Machine} → call m c ≡ o → P o → Runs P o.machine cs m' → Runs P m (c ∷ cs) m'
+  runs_cons {cs = cs} {m' = m'} e p k =
       let t = subst (λ (o : Outcome). (after o.machine cs ≡ m') × (P o × All P (outcomes o.machine cs))) (sym e) (k.leads, (p, k.answered)) in
       record { leads = t.0; answered = t.1 }
 

@@ -6,7 +6,7 @@ use Rattle.registers.specs.declared.Command.{Command}
 use Rattle.registers.specs.declared.Command.TheVariants.{None, SystemSet, SleepIn, Mwrite}
 use Rattle.registers.specs.declared.Direction.TheVariants.{Right}
 use Rattle.registers.specs.declared.Registers.{Registers}
-use Rattle.choice.specs.Choice.{if◌then◌else◌, ◌<?◌, ◌=?◌}
+use Rattle.choice.specs.Choice.{when◌then◌else◌, ◌<?◌, ◌=?◌}
 use Rattle.registers.specs.Commands.{command_of, ◌is◌, parameters}
 use Rattle.registers.specs.Parameters.{begin, store, allowed}
 use Rattle.registers.specs.Refusals.{Reply, accepted, refused}
@@ -18,7 +18,7 @@ use Rattle.model.specs.Bus.{ignored, display_off, command_write, served, data_wr
 use Rattle.model.specs.Calls.{command, write, call}
 use Rattle.model.specs.Refresh.{Values, bytes}
 use Rattle.model.specs.Demand.{Accepted, Only7}
-use Rattle.model.proofs.Runs.{Runs, runs_none, runs-cons, runs_to}
+use Rattle.model.proofs.Runs.{Runs, runs_none, runs_cons, runs_to}
 
 -- the registers x take the command c: they are awake, or it is SYSTEM SET
 abbrev pub Takes : Command → Registers → Type 0
@@ -32,7 +32,7 @@ takes_stored : (c : Command) (place b : ℕ) (x : Registers) → Takes c x → T
 unfolding ignored store
 takes_stored c place b x = go (c is SystemSet) (place =? 0)
   where
-    go : (t s : Bool) → (not t && x.asleep) ≡ false → (not t && (if t && s && x.asleep then false else x.asleep)) ≡ false
+    go : (t s : Bool) → (not t && x.asleep) ≡ false → (not t && (when t && s && x.asleep then false else x.asleep)) ≡ false
     go true s h = refl
     go false s h = h
 
@@ -61,7 +61,7 @@ pub parameters_run : (c : Command) → (c is Mwrite) ≡ false → (place k : �
     → Runs Accepted (machine (controller x c place) memory) (map write (bytes c place k vs)) (machine (controller (stores c place k vs x) c (parameters c)) memory)
 parameters_run c w place zero e vs x memory full t = runs_to (ap (λ (n : ℕ). machine (controller x c n) memory) (omega arith)) runs_none
 parameters_run c w place (suc k) e vs x memory full t =
-    runs-cons (stored c place vs.0 (omega arith) w (true_of _ vs.2) x memory full t) refl
+    runs_cons (stored c place vs.0 (omega arith) w (true_of _ vs.2) x memory full t) refl
     (parameters_run c w (place + 1) k (omega arith) vs.3 (store c place vs.0 x) memory full (takes_stored c place vs.0 x t))
 
 -- registers with the cursor at an address
@@ -89,7 +89,7 @@ module _ (x : Registers) (awake : x.asleep ≡ false) where
   filled d done [] (b ∷ bs) e full = absurd (omega arith)
   filled d done (o ∷ os) [] e full = absurd (omega arith)
   filled d done (o ∷ os) (b ∷ bs) e full =
-      runs-cons (wrote (length done) (done ++ (o ∷ os)) b full (omega (arith, sizes))) refl
+      runs_cons (wrote (length done) (done ++ (o ∷ os)) b full (omega (arith, sizes))) refl
       (rw (set-append_seam, right) (simp append_snoc at (filled d (done ++ (b ∷ [])) os bs (omega arith) (simp (append_snoc, length-append) sizes))))
     where
       sizes : length done + suc (length os) ≡ memory_size
@@ -109,7 +109,7 @@ module _ (x : Registers) (awake : x.asleep ≡ false) where
   spilled address memory (b ∷ bs) full =
       let t = one (address <? memory_size) refl in
       let k = spilled (next x address) t.0 bs t.1 in
-      (k.0, runs-cons {o = record { machine = writing x (next x address) t.0; reply = t.2 }} t.3 t.4 k.1)
+      (k.0, runs_cons {o = record { machine = writing x (next x address) t.0; reply = t.2 }} t.3 t.4 k.1)
     where
       one : (t : Bool) → (address <? memory_size) ≡ t → (memory₁ : List ℕ) × (length memory₁ ≡ memory_size) × (answer : Reply)
           × (call (writing x address memory) (write b) ≡ record { machine = writing x (next x address) memory₁; reply = answer }) × ((answer.refusal ≡ 0) ⊎ (answer.refusal ≡ 7))

@@ -9,26 +9,26 @@ Ten c = 0 < occurrences c (SystemSet ∷ nine)
 
 -- a proof for each of them
 pub record Each (P : Command → Type 0) : Type 0 where
-  pub system-set : P SystemSet
+  pub system_set : P SystemSet
   pub scroll : P Scroll
-  pub csr-form : P CsrForm
-  pub csr-dir : P CsrDir
+  pub csr_form : P CsrForm
+  pub csr_dir : P CsrDir
   pub ovlay : P Ovlay
-  pub cgram-adr : P CgramAdr
-  pub hdot-scr : P HdotScr
-  pub grey-scale : P GrayScale
+  pub cgram_adr : P CgramAdr
+  pub hdot_scr : P HdotScr
+  pub grey_scale : P GrayScale
   pub disp : P Disp
   pub csrw : P Csrw
 
 pub of_ten : (P : Command → Type 0) → Each P → (c : Command) → Ten c → P c
-of_ten P e SystemSet h = e.system-set
+of_ten P e SystemSet h = e.system_set
 of_ten P e Scroll h = e.scroll
-of_ten P e CsrForm h = e.csr-form
-of_ten P e CsrDir h = e.csr-dir
+of_ten P e CsrForm h = e.csr_form
+of_ten P e CsrDir h = e.csr_dir
 of_ten P e Ovlay h = e.ovlay
-of_ten P e CgramAdr h = e.cgram-adr
-of_ten P e HdotScr h = e.hdot-scr
-of_ten P e GrayScale h = e.grey-scale
+of_ten P e CgramAdr h = e.cgram_adr
+of_ten P e HdotScr h = e.hdot_scr
+of_ten P e GrayScale h = e.grey_scale
 of_ten P e Disp h = e.disp
 of_ten P e Csrw h = e.csrw
 of_ten P e None h = absurd (omega arith)

@@ -4,7 +4,7 @@ use Rattle.std.proofs.Math.Bool.{and-false}
 use Rattle.registers.specs.declared.Command.{Command}
 use Rattle.registers.specs.declared.Command.TheVariants.{SleepIn, Disp}
 use Rattle.registers.specs.declared.Registers.{Registers}
-use Rattle.choice.specs.Choice.{if◌then◌else◌, ◌=?◌}
+use Rattle.choice.specs.Choice.{when◌then◌else◌, ◌=?◌}
 use Rattle.choice.proofs.Cases.{choose}
 use Rattle.registers.specs.Commands.{command_of, ◌is◌}
 use Rattle.registers.specs.Parameters.{with_on, wakes, store, store_display, begin}
@@ -31,7 +31,7 @@ store_flags : (P : Bool → Bool → Type 0) → P false false → (c : Command)
 unfolding store store_display
 store_flags P ends c place b r stays = go (wakes c place r) (c is Disp)
   where
-    go : (w t : Bool) → P (if w then with_on false r.display else if t then store_display place b r.display else r.display).on (if w then false else r.asleep)
+    go : (w t : Bool) → P (when w then with_on false r.display else when t then store_display place b r.display else r.display).on (when w then false else r.asleep)
     go true t = ends
     go false true = stays
     go false false = stays
@@ -43,7 +43,7 @@ begin_dark : (c : Command) (b : ℕ) (r : Registers) → (b =? 0x59) ≡ false �
 unfolding begin
 begin_dark c b r n d = go (c is Disp) (c is SleepIn)
   where
-    go : (t s : Bool) → is_shown (if t then with_on (b =? 0x59) r.display else r.display).on (if s then true else r.asleep) ≡ false
+    go : (t s : Bool) → is_shown (when t then with_on (b =? 0x59) r.display else r.display).on (when s then true else r.asleep) ≡ false
     go true s = rw n
     go false true = rw and-false
     go false false = d

@@ -1,6 +1,6 @@
 -- Runs of data writes: all accepted, and as long as can be; and a run as bytes stored a stride apart.
 use Rattle.std.proofs.Common.{◌≡◌, ℕ, suc, ◌+◌, ◌%◌, ◌<◌, ◌≤◌, Bool, true, false, not, ◌&&◌, T, List, [], ◌∷◌, map, length, take, set, sym, refl, ◌∙◌, subst, suc-le-suc, zero-le, le_of_suc-le-suc, add-zero, zero-add, arith, length-set, eq-eqb}
-use Rattle.choice.specs.Choice.{if◌then◌else◌, ◌<?◌}
+use Rattle.choice.specs.Choice.{when◌then◌else◌, ◌<?◌}
 use Rattle.choice.proofs.Cases.{choose, both_true}
 use Rattle.registers.specs.declared.Command.TheVariants.{Mwrite}
 use Rattle.registers.specs.Commands.{◌is◌}
@@ -36,14 +36,14 @@ run_accepted m (b ∷ bs) =
     (λ h. (stores_accepted m b h, run_accepted (data_write m b).machine bs)) (λ h. tt)
 
 -- a data write that MWRITE serves and that does not store is refused
-pub not_stored : (m : Machine) (b : ℕ) → stores m ≡ false → (served m.controller is Mwrite) ≡ true → (data_write m b).reply ≡ refused (if sized m then 7 else 1)
+pub not_stored : (m : Machine) (b : ℕ) → stores m ≡ false → (served m.controller is Mwrite) ≡ true → (data_write m b).reply ≡ refused (when sized m then 7 else 1)
 unfolding stores data_write write_memory
 not_stored m b h w = rw w (go (sized m) (inside m) (rw w at h))
   where
     go : (s i : Bool) → (s && true && i) ≡ false
-        → (if not s then refuse 1 m.controller m.memory
-        else if i then accept (accessed m.controller) (set m.memory m.controller.registers.cursor.address b)
-        else refuse 7 (accessed m.controller) m.memory).reply ≡ refused (if s then 7 else 1)
+        → (when not s then refuse 1 m.controller m.memory
+        else when i then accept (accessed m.controller) (set m.memory m.controller.registers.cursor.address b)
+        else refuse 7 (accessed m.controller) m.memory).reply ≡ refused (when s then 7 else 1)
     go false i e = refl
     go true false e = refl
     go true true e = absurd (subst T e tt)
@@ -61,9 +61,9 @@ module _ (c : Controller) (stride : ℕ) (pending : (served c is Mwrite) ≡ tru
   abbrev from : ℕ → List ℕ → Machine
   from address memory = machine (controller (at c.registers address) c.pending.command c.pending.place) memory
 
-  stores-inside : (address : ℕ) (memory : List ℕ) → length memory ≡ memory_size → stores (from address memory) ≡ (address <? length memory)
+  stores_inside : (address : ℕ) (memory : List ℕ) → length memory ≡ memory_size → stores (from address memory) ≡ (address <? length memory)
   unfolding stores served
-  stores-inside address memory full = rw (eq-eqb _ _ full, pending)
+  stores_inside address memory full = rw (eq-eqb _ _ full, pending)
 
   abbrev Strided : ℕ → StoredOutcome → RunOutcome → Type 0
   Strided done s o = (from s.address s.memory ≡ o.machine) × (s.length ≡ done + o.length)
@@ -73,11 +73,11 @@ module _ (c : Controller) (stride : ℕ) (pending : (served c is Mwrite) ≡ tru
   strided done address memory (b ∷ bs) full =
       choose (λ (x : ℕ). Strided done (stored_from stride done address memory (b ∷ bs)) (run_outcome (from address memory) (b ∷ bs))) (address <? length memory) 0 0
       (λ e.
-      let s = stores-inside address memory full ∙ e in
+      let s = stores_inside address memory full ∙ e in
       let rest = strided (done + 1) ((address + stride) % 65536) (set memory address b) bs (length-set memory address b ∙ full) in
       rw (e, s, stored (from address memory) b s, moves) (rest.0, rest.1 ∙ omega arith))
-      (λ e. rw (e, stores-inside address memory full ∙ e) (refl, sym (add-zero done)))
+      (λ e. rw (e, stores_inside address memory full ∙ e) (refl, sym (add-zero done)))
 
-  pub run-strided : (memory bs : List ℕ) {s : StoredOutcome} → length memory ≡ memory_size → s ≡ stored_from stride 0 c.registers.cursor.address memory bs
+  pub run_strided : (memory bs : List ℕ) {s : StoredOutcome} → length memory ≡ memory_size → s ≡ stored_from stride 0 c.registers.cursor.address memory bs
       → record { machine = from s.address s.memory; length = s.length } ≡ run_outcome (machine c memory) bs
-  run-strided memory bs full e = let r = strided 0 c.registers.cursor.address memory bs full in rw (e, r.0, r.1 ∙ zero-add _)
+  run_strided memory bs full e = let r = strided 0 c.registers.cursor.address memory bs full in rw (e, r.0, r.1 ∙ zero-add _)

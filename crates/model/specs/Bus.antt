@@ -3,7 +3,7 @@
 use Rattle.std.specs.Prelude.{ℕ, ◌+◌, ◌/◌, ◌%◌, Bool, not, ◌&&◌, length, slice_index, slice_set}
 use Rattle.registers.specs.declared.Command.{Command}
 use Rattle.registers.specs.declared.Command.TheVariants.{None, SystemSet, SleepIn, Csrr, Mwrite, Mread}
-use Rattle.choice.specs.Choice.{if◌then◌else◌, ◌<?◌, ◌=?◌}
+use Rattle.choice.specs.Choice.{when◌then◌else◌, ◌<?◌, ◌=?◌}
 use Rattle.registers.specs.Commands.{command_of, ◌is◌, parameters}
 use Rattle.registers.specs.Parameters.{begin, store, allowed}
 use Rattle.registers.specs.Cursor.{move_cursor}
@@ -24,14 +24,14 @@ unfoldable pub command_write : Machine → ℕ → Outcome
 command_write m b =
     let c = m.controller in
     let command = command_of b in
-    if command is None then refuse 2 (ended c) m.memory
-    else if ignored command c.registers.asleep then refuse 5 (ended c) m.memory
-    else if display_off command c.registers.display.on then refuse 19 (ended c) m.memory
+    when command is None then refuse 2 (ended c) m.memory
+    else when ignored command c.registers.asleep then refuse 5 (ended c) m.memory
+    else when display_off command c.registers.display.on then refuse 19 (ended c) m.memory
     else accept (controller (begin command b c.registers) command 0) m.memory
 
 -- asleep, a pending command other than 40h wants nothing and has nothing to read
 unfoldable pub served : Controller → Command
-served c = if ignored c.pending.command c.registers.asleep then None else c.pending.command
+served c = when ignored c.pending.command c.registers.asleep then None else c.pending.command
 
 -- memory of the size that refusal 1 tests
 abbrev pub sized : Machine → Bool
@@ -48,7 +48,7 @@ inside m = m.controller.registers.cursor.address <? length m.memory
 unfoldable pub write_memory : Machine → ℕ → Outcome
 write_memory m b =
     let c = m.controller in
-    if inside m then accept (accessed c) (slice_set m.memory c.registers.cursor.address b)
+    when inside m then accept (accessed c) (slice_set m.memory c.registers.cursor.address b)
     else refuse 7 (accessed c) m.memory
 
 -- each parameter takes effect when it arrives
@@ -56,7 +56,7 @@ unfoldable pub write_parameter : Machine → ℕ → Outcome
 write_parameter m b =
     let c = m.controller in
     let place = c.pending.place in
-    if allowed (served c) place b
+    when allowed (served c) place b
     then accept (controller (store (served c) place b c.registers) c.pending.command (place + 1)) m.memory
     else refuse 4 (ended c) m.memory
 
@@ -64,24 +64,24 @@ write_parameter m b =
 unfoldable pub data_write : Machine → ℕ → Outcome
 data_write m b =
     let c = m.controller in
-    if not (sized m) then refuse 1 c m.memory
-    else if served c is Mwrite then write_memory m b
-    else if c.pending.place <? parameters (served c) then write_parameter m b
+    when not (sized m) then refuse 1 c m.memory
+    else when served c is Mwrite then write_memory m b
+    else when c.pending.place <? parameters (served c) then write_parameter m b
     else refuse 3 c m.memory
 
 unfoldable pub read_memory : Machine → Outcome
 read_memory m =
     let c = m.controller in
-    if inside m then give (slice_index m.memory c.registers.cursor.address) (accessed c) m.memory
+    when inside m then give (slice_index m.memory c.registers.cursor.address) (accessed c) m.memory
     else refuse 7 (accessed c) m.memory
 
 -- CSRR has two reads
 unfoldable pub cursor_reads : Command → ℕ
-cursor_reads command = if command is Csrr then 2 else 0
+cursor_reads command = when command is Csrr then 2 else 0
 
 -- cursor low, high
 unfoldable pub address_byte : ℕ → ℕ → ℕ
-address_byte address place = if place =? 0 then address % 256 else address / 256
+address_byte address place = when place =? 0 then address % 256 else address / 256
 
 -- CSRR doesn't move the cursor
 unfoldable pub read_cursor : Machine → Outcome
@@ -94,7 +94,7 @@ read_cursor m =
 unfoldable pub data_read : Machine → Outcome
 data_read m =
     let c = m.controller in
-    if not (sized m) then refuse 1 c m.memory
-    else if served c is Mread then read_memory m
-    else if c.pending.place <? cursor_reads (served c) then read_cursor m
+    when not (sized m) then refuse 1 c m.memory
+    else when served c is Mread then read_memory m
+    else when c.pending.place <? cursor_reads (served c) then read_cursor m
     else refuse 6 c m.memory

@@ -14,10 +14,10 @@ OnBus read = Unit {0}
 -- a controller from reset with any memory of its own, sent a list of its own
 pub record Prior : Type 0 where
   pub memory : List ℕ
-  pub memory-bytes : All Byte memory
-  pub memory-full : length memory ≡ memory_size
+  pub memory_bytes : All Byte memory
+  pub memory_full : length memory ≡ memory_size
   pub calls : List BusCall
-  pub calls-bytes : All OnBus calls
+  pub calls_bytes : All OnBus calls
 
 abbrev pub reached : Prior → Machine
 reached p = after (reset p.memory) p.calls
@@ -34,7 +34,7 @@ pub record Settled (m₁ m₂ : Machine) (r : Refresh) (later : List Call) : Typ
   -- when it ends, registers, cursor and memory are equal
   pub equal : after m₁ (sent r) ≡ after m₂ (sent r)
   -- and after every later call, of a row too, with the same answers
-  pub equal-later : trace (after m₁ (sent r)) later ≡ trace (after m₂ (sent r)) later
+  pub equal_later : trace (after m₁ (sent r)) later ≡ trace (after m₂ (sent r)) later
 
 abbrev pub RefreshSettles : Type 0
 RefreshSettles = (p₁ p₂ : Prior) (r : Refresh) (later : List Call) → Settled (reached p₁) (reached p₂) r later

@@ -2,7 +2,7 @@
 -- cases marked *, each computed by the definitions from what a list of calls leaves, from reset beside any memory of 32,768
 -- bytes.
 use Rattle.std.specs.Prelude.{◌≡◌, ℕ, ◌%◌, List, [], ◌∷◌, ◌++◌, length, replicate, slice_index}
-use Rattle.choice.specs.Choice.{if◌then◌else◌}
+use Rattle.choice.specs.Choice.{when◌then◌else◌}
 use Rattle.registers.specs.Sizes.{memory_size, font_size}
 use Rattle.registers.specs.Layout.{in_layout}
 use Rattle.row.specs.declared.Glyph.{Glyph}
@@ -45,7 +45,7 @@ observed refusal o = o.reply.refusal
 observed cursor o = o.machine.controller.registers.cursor.address
 observed (byte address) o = slice_index o.machine.memory address
 observed (row0 buffer) o = (row_answer o.machine.controller.registers o.machine.memory (replicate font_size 0) 0 0 buffer).refusal
-observed (lit block frame) o = if is_lit (in_layout o.machine.controller.registers).display.fp block frame then 1 else 0
+observed (lit block frame) o = when is_lit (in_layout o.machine.controller.registers).display.fp block frame then 1 else 0
 observed (font_index_of code) o = index_in (glyph_of o.machine.controller.registers.system.m0 code)
 observed (cg_ram_address_of code) o =
     let r = o.machine.controller.registers in

@@ -2,7 +2,7 @@
 use Rattle.std.specs.Prelude.{◌≡◌, ℕ, zero, suc, ◌+◌, ◌<◌, Bool, ◌&&◌, T, List, [], ◌∷◌, ◌++◌, length}
 use Rattle.registers.specs.declared.Command.{Command}
 use Rattle.registers.specs.declared.Command.TheVariants.{SystemSet, Disp, Scroll, CsrForm, CsrDir, Ovlay, CgramAdr, HdotScr, GrayScale, Csrw, Mwrite}
-use Rattle.choice.specs.Choice.{if◌then◌else◌}
+use Rattle.choice.specs.Choice.{when◌then◌else◌}
 use Rattle.registers.specs.Commands.{code, ◌is◌, parameters}
 use Rattle.registers.specs.Parameters.{allowed}
 use Rattle.registers.specs.Sizes.{memory_size}
@@ -34,7 +34,7 @@ all_bytes c vs = bytes c 0 (parameters c) vs
 -- how often a command stands in a list
 abbrev pub occurrences : Command → List Command → ℕ
 occurrences c [] = 0
-occurrences c (d ∷ ds) = if c is d then suc (occurrences c ds) else occurrences c ds
+occurrences c (d ∷ ds) = when c is d then suc (occurrences c ds) else occurrences c ds
 
 -- what stands between SYSTEM SET and MWRITE
 abbrev pub nine : List Command
@@ -55,16 +55,16 @@ pub record Refresh : Type 0 where
   pub once : (c : Command) → occurrences c order ≡ occurrences c nine
   -- MWRITE with 32,768 bytes
   pub memory : List ℕ
-  pub memory-bytes : All Byte memory
-  pub memory-full : length memory ≡ memory_size
+  pub memory_bytes : All Byte memory
+  pub memory_full : length memory ≡ memory_size
 
 module _ (r : Refresh) where
   -- 4C of CSRDIR, 58 or 59 of DISP
   abbrev pub opcode : Command → ℕ
-  opcode c = if c is Disp && r.on then 0x59 else code c
+  opcode c = when c is Disp && r.on then 0x59 else code c
 
   abbrev pub sent_data : Command → List ℕ
-  sent_data c = if c is Mwrite then r.memory else all_bytes c (r.values c)
+  sent_data c = when c is Mwrite then r.memory else all_bytes c (r.values c)
 
   -- a command with its data
   abbrev pub send : Command → List BusCall
@@ -81,4 +81,4 @@ module _ (r : Refresh) where
 -- a list of commands with one left out
 abbrev pub without : Command → List Command → List Command
 without c [] = []
-without c (d ∷ ds) = if c is d then without c ds else d ∷ without c ds
+without c (d ∷ ds) = when c is d then without c ds else d ∷ without c ds

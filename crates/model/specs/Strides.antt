@@ -1,6 +1,6 @@
 -- What the code of a run computes: bytes stored a stride apart, whatever direction that is, and how many fit. Nothing public cites it.
 use Rattle.std.specs.Prelude.{ℕ, ◌+◌, ◌*◌, ◌%◌, ◌<◌, ◌≤◌, List, [], ◌∷◌, length, slice_set}
-use Rattle.choice.specs.Choice.{if◌then◌else◌, ◌<?◌}
+use Rattle.choice.specs.Choice.{when◌then◌else◌, ◌<?◌}
 use Rattle.registers.specs.Sizes.{memory_size}
 use Rattle.model.specs.declared.memory.Stored.{Stored}
 
@@ -20,7 +20,7 @@ stored_outcome s memory = outcome s.address memory s.length
 abbrev pub stored_from : ℕ → ℕ → ℕ → List ℕ → List ℕ → StoredOutcome
 stored_from stride done address memory [] = outcome address memory done
 stored_from stride done address memory (b ∷ bs) =
-    if address <? length memory
+    when address <? length memory
     then stored_from stride (done + 1) ((address + stride) % 65536) (slice_set memory address b) bs
     else outcome address memory done
 

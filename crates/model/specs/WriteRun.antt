@@ -1,7 +1,7 @@
 -- A run: as many data writes of a list of bytes, from the first on, as go into memory and are accepted. 01 knows only single data
 -- writes, and a run is so many of them.
 use Rattle.std.specs.Prelude.{ℕ, suc, Bool, ◌&&◌, List, [], ◌∷◌, map, take}
-use Rattle.choice.specs.Choice.{if◌then◌else◌}
+use Rattle.choice.specs.Choice.{when◌then◌else◌}
 use Rattle.registers.specs.declared.Command.TheVariants.{Mwrite}
 use Rattle.registers.specs.Commands.{◌is◌}
 use Rattle.model.specs.declared.WriteRun.{WriteRun}
@@ -16,7 +16,7 @@ stores m = sized m && served m.controller is Mwrite && inside m
 -- how many data writes do, one after the other, up to the first that does not
 abbrev pub run_length : Machine → List ℕ → ℕ
 run_length m [] = 0
-run_length m (b ∷ bs) = if stores m then suc (run_length (data_write m b).machine bs) else 0
+run_length m (b ∷ bs) = when stores m then suc (run_length (data_write m b).machine bs) else 0
 
 -- the machine that a run leaves, and how many bytes it took
 pub record RunOutcome : Type 0 where

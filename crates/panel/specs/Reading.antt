@@ -42,9 +42,9 @@ pub record RunsFile (font out : List ℕ) (o : Output) (memory' out' : List ℕ)
   pub last : Progress
   pub takes : Bool
   pub ran : Ran font (start_of (replicate memory_size 0) out) (2 ^ 64 - 1) last takes
-  pub memory-left : last.state.machine.memory ≡ memory'
+  pub memory_left : last.state.machine.memory ≡ memory'
   pub ends : (printed last.state.output (end_line last.good)).bytes ≡ out'
-  pub nothing-held : o.used ≡ 0
+  pub nothing_held : o.used ≡ 0
   pub stays : OpenAfter takes true o.open
   -- so a file that stopped is printed whole
   pub whole : last.more ≡ false → All Byte ran.file → PrintsAll font ran.file out last

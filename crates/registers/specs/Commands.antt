@@ -1,6 +1,6 @@
 -- Reference, 'Commands'; 01, the command table: codes, commands and how many parameters each takes.
 use Rattle.std.specs.Prelude.{ℕ, Bool, ◌&&◌, List, [], ◌∷◌}
-use Rattle.choice.specs.Choice.{if◌then◌else◌, ◌≤?◌, ◌=?◌}
+use Rattle.choice.specs.Choice.{when◌then◌else◌, ◌≤?◌, ◌=?◌}
 use Rattle.registers.specs.declared.Command.{Command}
 use Rattle.registers.specs.declared.Command.TheVariants.{None, SystemSet, SleepIn, Disp, Scroll, CsrForm, CsrDir, Ovlay, CgramAdr, HdotScr, GrayScale, Csrw, Csrr, Mwrite, Mread}
 
@@ -36,7 +36,7 @@ commands =
 -- the first that has a byte as a code, `None` where none has
 abbrev pub find : ℕ → List Command → Command
 find b [] = None
-find b (c ∷ cs) = if (entry c).0 ≤? b && b ≤? (entry c).1 then c else find b cs
+find b (c ∷ cs) = when (entry c).0 ≤? b && b ≤? (entry c).1 then c else find b cs
 
 -- the command of a byte, `None` where it is none of the 18 codes
 unfoldable pub command_of : ℕ → Command

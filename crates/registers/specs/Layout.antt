@@ -1,7 +1,7 @@
 -- Reference, 'Reset'; 01, 'Reset, commands and parameters': a field handed in outside its layout, or a grey code of 3, is read
 -- as 0.
 use Rattle.std.specs.Prelude.{ℕ}
-use Rattle.choice.specs.Choice.{if◌then◌else◌, ◌<?◌}
+use Rattle.choice.specs.Choice.{when◌then◌else◌, ◌<?◌}
 use Rattle.registers.specs.Counts.{code_of}
 use Rattle.registers.specs.declared.System.{System}
 use Rattle.registers.specs.declared.Display.{Display}
@@ -10,7 +10,7 @@ use Rattle.registers.specs.declared.Overlay.{Overlay}
 use Rattle.registers.specs.declared.Registers.{Registers}
 
 unfoldable pub field : ℕ → ℕ → ℕ
-field limit v = if v <? limit then v else 0
+field limit v = when v <? limit then v else 0
 
 abbrev pub system_in_layout : System → System
 system_in_layout s =

@@ -7,7 +7,7 @@ use Rattle.registers.specs.declared.Refusal.{Refusal}
 use Rattle.registers.specs.declared.Refusal.TheVariants.{MemorySize, FontSize}
 use Rattle.registers.specs.declared.Registers.{Registers}
 use Rattle.choice.proofs.Cases.{choose}
-use Rattle.choice.specs.Choice.{if◌then◌else◌, ◌<?◌, ◌≤?◌, ◌=?◌}
+use Rattle.choice.specs.Choice.{when◌then◌else◌, ◌<?◌, ◌≤?◌, ◌=?◌}
 use Rattle.registers.specs.Counts.{⁅◌⁆}
 use Rattle.registers.specs.Refusals.{number, reply}
 use Rattle.registers.specs.Sizes.{memory_size, font_size}
@@ -19,7 +19,7 @@ use Rattle.row.specs.Rows.{composed_outcome, row_answer, row_outcome}
 use Rattle.row.specs.Stages.{Composable}
 
 -- a test that would refuse has failed
-passed : (b : Bool) (k x : ℕ) → (if b then suc k else x) ≡ 0 → (b ≡ false) × (x ≡ 0)
+passed : (b : Bool) (k x : ℕ) → (when b then suc k else x) ≡ 0 → (b ≡ false) × (x ≡ 0)
 passed true k x e = absurd (omega arith)
 passed false k x e = (refl, e)
 

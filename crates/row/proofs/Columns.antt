@@ -2,7 +2,7 @@
 use Rattle.std.proofs.Common.{◌≡◌, ℕ, zero, suc, ◌+◌, ◌-◌, ◌*◌, ◌/◌, ◌<◌, ◌≤◌, sym, ap, subst, mul-le-mul_left, mul-one, suc-ne-zero, arith, ne_eqb}
 use Rattle.registers.specs.declared.Code.{Code}
 use Rattle.registers.specs.declared.Registers.{Registers}
-use Rattle.choice.specs.Choice.{if◌then◌else◌, ◌=?◌}
+use Rattle.choice.specs.Choice.{when◌then◌else◌, ◌=?◌}
 use Rattle.registers.specs.Counts.{⁅◌⁆}
 use Rattle.dots.specs.Bytes.{bits_per_dot}
 use Rattle.dots.specs.Expanded.{DotsFit}
@@ -17,13 +17,13 @@ columns_fit r h = (
   go r.grey h.code,
   record {
     code = h.code;
-    one = λ e. subst (λ (g : ℕ). (if g =? 0 then ⁅ r.system.fx ⁆ else 8 / bits_per_dot g) ≤ 8) (sym e) h.narrow;
-    two = λ e. ap (λ (g : ℕ). if g =? 0 then ⁅ r.system.fx ⁆ else 8 / bits_per_dot g) e;
-    four = λ e. ap (λ (g : ℕ). if g =? 0 then ⁅ r.system.fx ⁆ else 8 / bits_per_dot g) e;
+    one = λ e. subst (λ (g : ℕ). (when g =? 0 then ⁅ r.system.fx ⁆ else 8 / bits_per_dot g) ≤ 8) (sym e) h.narrow;
+    two = λ e. ap (λ (g : ℕ). when g =? 0 then ⁅ r.system.fx ⁆ else 8 / bits_per_dot g) e;
+    four = λ e. ap (λ (g : ℕ). when g =? 0 then ⁅ r.system.fx ⁆ else 8 / bits_per_dot g) e;
   },
 )
   where
-    go : (g : ℕ) → g < 3 → 0 < (if g =? 0 then ⁅ r.system.fx ⁆ else 8 / bits_per_dot g)
+    go : (g : ℕ) → g < 3 → 0 < (when g =? 0 then ⁅ r.system.fx ⁆ else 8 / bits_per_dot g)
     go zero l = omega arith
     go (suc zero) l = omega arith
     go (suc (suc zero)) l = omega arith

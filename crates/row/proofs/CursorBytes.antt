@@ -3,7 +3,7 @@ use Rattle.std.proofs.Common.{◌≡◌, ℕ, ◌+◌, ◌-◌, ◌*◌, ◌/◌
 use lib.Bits.{bit_xor, xor_zero_r}
 use borrow.Author.Tests.{eqb-false}
 use Rattle.registers.specs.declared.Registers.{Registers}
-use Rattle.choice.specs.Choice.{if◌then◌else◌, ◌<?◌, ◌=?◌}
+use Rattle.choice.specs.Choice.{when◌then◌else◌, ◌<?◌, ◌=?◌}
 use Rattle.registers.specs.Counts.{⁅◌⁆}
 use Rattle.choice.proofs.Below.{all_below, all_below_lem, below2}
 use Rattle.choice.proofs.Cases.{lt_or_le}
@@ -19,9 +19,9 @@ use Rattle.row.specs.Cursor.{has_cursor, inverted}
 use Rattle.row.specs.Stages.{line_address, first_bits, cursor_byte, Composable}
 
 abbrev bits_test : ℕ → ℕ → Bool
-bits_test n j = dot_of 1 (first_bits n) j =? (if j <? n then 1 else 0)
+bits_test n j = dot_of 1 (first_bits n) j =? (when j <? n then 1 else 0)
 
-bits_dot : (n j : ℕ) → j < 8 → dot_of 1 (first_bits n) j ≡ (if j <? n then 1 else 0)
+bits_dot : (n j : ℕ) → j < 8 → dot_of 1 (first_bits n) j ≡ (when j <? n then 1 else 0)
 unfolding first_bits dot_of
 bits_dot n j h =
     ⊎_elim
@@ -29,7 +29,7 @@ bits_dot n j h =
     (λ l. rw (le-ltb n 8 l, lt-ltb j n (omega arith)) (eqb→eq _ _ (all_below_lem (λ i. dot_of 1 255 i =? 1) 8 tt j h)))
     (lt_or_le n 8)
 
-xor_bit : (b : Bool) (d : ℕ) → d < 2 → bit_xor d (if b then 1 else 0) ≡ (if b then 1 - d else d)
+xor_bit : (b : Bool) (d : ℕ) → d < 2 → bit_xor d (when b then 1 else 0) ≡ (when b then 1 - d else d)
 xor_bit true d h = below2 (λ d. bit_xor d 1 ≡ 1 - d) refl refl d h
 xor_bit false d h = xor_zero_r d
 
@@ -38,7 +38,7 @@ text_one_bit : (r : Registers) → Composable r → (block : ℕ) → is_text r.
 unfolding is_text
 text_one_bit r h block e = ⊎_elim (λ z. z) (λ pos. absurd (no_text pos)) (eq-zero-or-pos r.grey)
   where
-    go : (x y : Bool) → (if x then not true else if y then not true else false) ≡ false
+    go : (x y : Bool) → (when x then not true else when y then not true else false) ≡ false
     go true y = refl
     go false true = refl
     go false false = refl
@@ -71,10 +71,10 @@ cursor_dots r frame layer c a j h low = go (has_cursor r frame layer c) (cursor_
     crx = ⁅ r.form.crx ⁆
 
     go : (here : Bool) → (here ≡ true → r.grey ≡ 0)
-        → dot_of (bits_per_dot r.grey) (if here then bit_xor a (first_bits crx) else a) j
-        ≡ (if here && j <? crx then 1 - dot_of (bits_per_dot r.grey) a j else dot_of (bits_per_dot r.grey) a j)
+        → dot_of (bits_per_dot r.grey) (when here then bit_xor a (first_bits crx) else a) j
+        ≡ (when here && j <? crx then 1 - dot_of (bits_per_dot r.grey) a j else dot_of (bits_per_dot r.grey) a j)
     go true e =
-        subst (λ (g : ℕ). dot_of (bits_per_dot g) (bit_xor a (first_bits crx)) j ≡ (if j <? crx then 1 - dot_of (bits_per_dot g) a j else dot_of (bits_per_dot g) a j)) (sym (e refl))
+        subst (λ (g : ℕ). dot_of (bits_per_dot g) (bit_xor a (first_bits crx)) j ≡ (when j <? crx then 1 - dot_of (bits_per_dot g) a j else dot_of (bits_per_dot g) a j)) (sym (e refl))
         (rw (dot_xor 1 a (first_bits crx) j, bits_dot crx j (low (e refl))) (xor_bit (j <? crx) (dot_of 1 a j) (dot_lt 1 a j)))
     go false e = refl
 
@@ -108,7 +108,7 @@ one_cell r frame layer line at h cells = is_table (length line) _ _ (length-set 
     inverse = bit_xor (get_or line at 0) (first_bits ⁅ r.form.crx ⁆)
 
     go : (k : ℕ) (b : Bool) → (k =? at) ≡ b → has_cursor r frame layer k ≡ (k =? at)
-        → get_or (set line at inverse) k 0 ≡ (if has_cursor r frame layer k then bit_xor (get_or line k 0) (first_bits ⁅ r.form.crx ⁆) else get_or line k 0)
+        → get_or (set line at inverse) k 0 ≡ (when has_cursor r frame layer k then bit_xor (get_or line k 0) (first_bits ⁅ r.form.crx ⁆) else get_or line k 0)
     go k true f e =
         rw (e ∙ f) (subst (λ (x : ℕ). get_or (set line at inverse) x 0 ≡ bit_xor (get_or line x 0) (first_bits ⁅ r.form.crx ⁆)) (sym (eqb-true k at f)) (get_or-set_same line at inverse 0 h))
     go k false f e = rw (e ∙ f) (get_or-set_other line at k inverse 0 (eqb-false k at f))

@@ -3,7 +3,7 @@ use Rattle.std.proofs.Common.{◌≡◌, ℕ, ◌+◌, ◌-◌, ◌*◌, ◌/◌
 use native.Mathlib.Nat.{div-eq_of_lt}
 use lib.ListN.{length-replicate, get_or-replicate}
 use Rattle.registers.specs.declared.Registers.{Registers}
-use Rattle.choice.specs.Choice.{if◌then◌else◌}
+use Rattle.choice.specs.Choice.{when◌then◌else◌}
 use Rattle.registers.specs.Counts.{⁅◌⁆}
 use Rattle.dots.specs.Tables.{table}
 use Rattle.dots.specs.Mixing.{mix}
@@ -97,10 +97,10 @@ module _ (r : Registers) (memory font : List ℕ) (frame n : ℕ) where
 
 -- the whole row: shown, or with D = 0 or asleep
 pub row_when : (r : Registers) (memory font : List ℕ) (frame n : ℕ) {t : Bool} → is_shown r.display.on r.asleep ≡ t
-    → table (width r) (λ x. if t then composed_dot r memory font frame n (x + r.hdot) else 0) ≡ dots r memory font frame n
+    → table (width r) (λ x. when t then composed_dot r memory font frame n (x + r.hdot) else 0) ≡ dots r memory font frame n
 unfolding dots dot unscrolled_dot
 row_when r memory font frame n e =
-    same_table (width r) _ _ (λ x l. sym (ap (λ (b : Bool). if b then composed_dot r memory font frame n (x + r.hdot) else 0) e))
+    same_table (width r) _ _ (λ x l. sym (ap (λ (b : Bool). when b then composed_dot r memory font frame n (x + r.hdot) else 0) e))
 
 pub dark_row : (r : Registers) (memory font : List ℕ) (frame n : ℕ) → is_shown r.display.on r.asleep ≡ false → dots r memory font frame n ≡ replicate (width r) 0
 dark_row r memory font frame n e =

@@ -2,7 +2,7 @@
 use Rattle.std.specs.Prelude.{ℕ, ◌-◌, ◌%◌, Bool, false, not, ◌&&◌}
 use Rattle.registers.specs.declared.CursorForm.{CursorForm}
 use Rattle.registers.specs.declared.Registers.{Registers}
-use Rattle.choice.specs.Choice.{if◌then◌else◌, ◌<?◌, ◌=?◌}
+use Rattle.choice.specs.Choice.{when◌then◌else◌, ◌<?◌, ◌=?◌}
 use Rattle.registers.specs.Counts.{⁅◌⁆}
 use Rattle.row.specs.Layers.{is_text, three_layers}
 use Rattle.row.specs.Glyphs.{code_address}
@@ -12,7 +12,7 @@ use Rattle.row.specs.declared.LayerRow.TheVariants.{Nothing, Block}
 
 -- on glyph row [CRY] - 1, or with CM = 1 on all rows below [CRY]
 unfoldable pub in_shape : CursorForm → ℕ → Bool
-in_shape f row = if f.cm then row <? ⁅ f.cry ⁆ else row =? ⁅ f.cry ⁆ - 1
+in_shape f row = when f.cm then row <? ⁅ f.cry ⁆ else row =? ⁅ f.cry ⁆ - 1
 
 -- with two layers only, in layer 1, in each text cell whose code address equals the cursor
 unfoldable pub has_cursor : Registers → ℕ → LayerRow → ℕ → Bool
@@ -23,4 +23,4 @@ has_cursor r frame (Block block q) c =
 
 -- the first [CRX] dots are inverted
 unfoldable pub inverted : Bool → ℕ → ℕ → ℕ → ℕ
-inverted here crx j dot = if here && j <? crx then 1 - dot else dot
+inverted here crx j dot = when here && j <? crx then 1 - dot else dot

@@ -2,7 +2,7 @@
 use Rattle.std.specs.Prelude.{ℕ, ◌+◌, ◌-◌, ◌*◌, ◌/◌, ◌%◌, Bool, not, ◌&&◌, List}
 use Rattle.registers.specs.declared.Code.{Code}
 use Rattle.registers.specs.declared.Registers.{Registers}
-use Rattle.choice.specs.Choice.{if◌then◌else◌, ◌=?◌}
+use Rattle.choice.specs.Choice.{when◌then◌else◌, ◌=?◌}
 use Rattle.registers.specs.Counts.{⁅◌⁆}
 use Rattle.dots.specs.Tables.{table}
 use Rattle.dots.specs.Mixing.{mix}
@@ -16,14 +16,14 @@ use Rattle.row.specs.declared.LayerRow.TheVariants.{Nothing, Block}
 
 -- the dots of a column: [FX], in grey 8 / bits a dot
 unfoldable pub dots_per_column : ℕ → Code → ℕ
-dots_per_column grey fx = if grey =? 0 then ⁅ fx ⁆ else 8 / bits_per_dot grey
+dots_per_column grey fx = when grey =? 0 then ⁅ fx ⁆ else 8 / bits_per_dot grey
 
 abbrev pub per_column : Registers → ℕ
 per_column r = dots_per_column r.grey r.system.fx
 
 -- #101: how many columns wide a row is
 unfoldable pub shown_columns : ℕ → Code → ℕ
-shown_columns hdot cr = if hdot =? 0 then ⁅ cr ⁆ else ⁅ cr ⁆ - 1
+shown_columns hdot cr = when hdot =? 0 then ⁅ cr ⁆ else ⁅ cr ⁆ - 1
 
 -- Width: [C/R] x [FX] dots, in grey [C/R] x 8 / bits a dot; #101: scrolled, ([C/R] - 1) x [FX] (in grey such a row is refused)
 unfoldable pub width : Registers → ℕ
@@ -32,7 +32,7 @@ width r = shown_columns r.hdot r.system.cr * per_column r
 -- a layer's byte at column c; a dark block's is 0
 unfoldable pub layer_byte : Registers → List ℕ → List ℕ → ℕ → LayerRow → ℕ → ℕ
 layer_byte r memory font frame Nothing c = 0
-layer_byte r memory font frame (Block block q) c = if is_lit r.display.fp block frame then block_byte r memory font block q c else 0
+layer_byte r memory font frame (Block block q) c = when is_lit r.display.fp block frame then block_byte r memory font block q c else 0
 
 -- dot j of column c of row n, with the cursor in layer 1
 unfoldable pub column_dot : Registers → List ℕ → List ℕ → ℕ → ℕ → ℕ → ℕ → ℕ
@@ -53,7 +53,7 @@ is_shown on asleep = on && not asleep
 
 -- with D = 0 or asleep, all dots are 0
 unfoldable pub unscrolled_dot : Registers → List ℕ → List ℕ → ℕ → ℕ → ℕ → ℕ
-unscrolled_dot r memory font frame n x = if is_shown r.display.on r.asleep then composed_dot r memory font frame n x else 0
+unscrolled_dot r memory font frame n x = when is_shown r.display.on r.asleep then composed_dot r memory font frame n x else 0
 
 -- #101: scrolled by HDOT SCR's value, dot x is dot x + HDOT SCR of that row
 unfoldable pub dot : Registers → List ℕ → List ℕ → ℕ → ℕ → ℕ → ℕ

@@ -1,6 +1,6 @@
 -- Reference, 'Flashing'; 01, 'Blocks and layers of a row': flashing.
 use Rattle.std.specs.Prelude.{ℕ, ◌*◌, ◌%◌, Bool, true, false}
-use Rattle.choice.specs.Choice.{if◌then◌else◌, ◌<?◌, ◌=?◌}
+use Rattle.choice.specs.Choice.{when◌then◌else◌, ◌<?◌, ◌=?◌}
 use Rattle.registers.specs.Parameters.{bits}
 
 -- something with a period is on when 10 x (frame number mod period) is below 7 x period
@@ -10,14 +10,14 @@ is_on period frame = 10 * (frame % period) <? 7 * period
 -- 00 dark or off, 01 steady, 10 period 32 frames, 11 the period given
 unfoldable pub flashing : ℕ → ℕ → ℕ → Bool
 flashing code period frame =
-    if code =? 0 then false
-    else if code =? 1 then true
-    else if code =? 2 then is_on 32 frame
+    when code =? 0 then false
+    else when code =? 1 then true
+    else when code =? 2 then is_on 32 frame
     else is_on period frame
 
 -- FP1,0 rules block 1, FP3,2 blocks 2 and 4, FP5,4 block 3; 11 is period 4
 unfoldable pub is_lit : ℕ → ℕ → ℕ → Bool
-is_lit fp block frame = flashing (if block =? 1 then bits 1 0 fp else if block =? 3 then bits 5 4 fp else bits 3 2 fp) 4 frame
+is_lit fp block frame = flashing (when block =? 1 then bits 1 0 fp else when block =? 3 then bits 5 4 fp else bits 3 2 fp) 4 frame
 
 -- FC: 11 is period 64
 abbrev pub cursor_on : ℕ → ℕ → Bool

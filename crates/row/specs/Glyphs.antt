@@ -1,7 +1,7 @@
 -- Reference, 'Glyphs'; 01, 'Blocks and layers of a row': what a block's bytes are fetched from.
 use Rattle.std.specs.Prelude.{ℕ, ◌+◌, ◌-◌, ◌*◌, ◌/◌, ◌%◌, Bool, ◌||◌, List, slice_index}
 use Rattle.registers.specs.declared.Registers.{Registers}
-use Rattle.choice.specs.Choice.{if◌then◌else◌, ◌<?◌}
+use Rattle.choice.specs.Choice.{when◌then◌else◌, ◌<?◌}
 use Rattle.registers.specs.Counts.{⁅◌⁆}
 use Rattle.row.specs.Layers.{is_text, sad}
 use Rattle.row.specs.declared.Glyph.{Glyph}
@@ -15,11 +15,11 @@ fetch memory address = slice_index memory (address % 65536)
 -- CG RAM
 unfoldable pub glyph_of : Bool → ℕ → Glyph
 glyph_of m0 code =
-    if m0 then CgRam
-    else if code <? 0x20 then Empty
-    else if code <? 0x80 then Font (code - 0x20)
-    else if code <? 0xA0 then CgRam
-    else if code <? 0xE0 then Font (code - 0x40)
+    when m0 then CgRam
+    else when code <? 0x20 then Empty
+    else when code <? 0x80 then Font (code - 0x20)
+    else when code <? 0xA0 then CgRam
+    else when code <? 0xE0 then Font (code - 0x40)
     else CgRam
 
 -- eight bytes each, top first; font rows from 8 on are blank
@@ -27,14 +27,14 @@ abbrev pub font_index : ℕ → ℕ → ℕ
 font_index index row = index * 8 + row
 
 unfoldable pub font_byte : List ℕ → ℕ → ℕ → ℕ
-font_byte font index row = if row <? 8 then slice_index font (font_index index row) else 0
+font_byte font index row = when row <? 8 then slice_index font (font_index index row) else 0
 
 -- CGRAM ADR + code x 8 + glyph row, or code x 16 with M2 = 1; rows from 8 on are blank with M2 = 0
 abbrev pub cg_ram_address : Bool → ℕ → ℕ → ℕ → ℕ
-cg_ram_address m2 cgram code row = cgram + code * (if m2 then 16 else 8) + row
+cg_ram_address m2 cgram code row = cgram + code * (when m2 then 16 else 8) + row
 
 unfoldable pub cg_ram_byte : Bool → ℕ → List ℕ → ℕ → ℕ → ℕ
-cg_ram_byte m2 cgram memory code row = if m2 || row <? 8 then fetch memory (cg_ram_address m2 cgram code row) else 0
+cg_ram_byte m2 cgram memory code row = when m2 || row <? 8 then fetch memory (cg_ram_address m2 cgram code row) else 0
 
 unfoldable pub glyph_row : Glyph → Bool → ℕ → List ℕ → List ℕ → ℕ → ℕ → ℕ
 glyph_row Empty m2 cgram memory font code row = 0
@@ -51,6 +51,6 @@ code_address r block q c = sad r.blocks block + q / ⁅ r.system.fy ⁆ * r.syst
 -- graphics reads SAD + q x AP + c; text reads its code, and glyph row q mod [FY]
 unfoldable pub block_byte : Registers → List ℕ → List ℕ → ℕ → ℕ → ℕ → ℕ
 block_byte r memory font block q c =
-    if is_text r.overlay block
+    when is_text r.overlay block
     then glyph_byte r.system.m0 r.system.m2 r.cgram memory font (fetch memory (code_address r block q c)) (q % ⁅ r.system.fy ⁆)
     else fetch memory (sad r.blocks block + q * r.system.ap + c)

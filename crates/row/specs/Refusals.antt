@@ -5,7 +5,7 @@ use Rattle.registers.specs.declared.Blocks.{Blocks}
 use Rattle.registers.specs.declared.CursorForm.{CursorForm}
 use Rattle.registers.specs.declared.Overlay.{Overlay}
 use Rattle.registers.specs.declared.Registers.{Registers}
-use Rattle.choice.specs.Choice.{if◌then◌else◌, ◌<?◌, ◌≤?◌, ◌=?◌}
+use Rattle.choice.specs.Choice.{when◌then◌else◌, ◌<?◌, ◌≤?◌, ◌=?◌}
 use Rattle.registers.specs.Counts.{⁅◌⁆}
 use Rattle.registers.specs.Sizes.{memory_size, font_size}
 use Rattle.row.specs.Layers.{dm11, three_layers}
@@ -35,16 +35,16 @@ cursor_shape fc f fx = not (fc =? 0) && (f.cry.0 =? 0 || ⁅ fx ⁆ <? ⁅ f.crx
 unfoldable pub row_refusal : Registers → ℕ → ℕ → ℕ → ℕ → ℕ
 row_refusal r memory_length font_length n buffer_length =
     let s = r.system in
-    if not (memory_length =? memory_size) then 1
-    else if not (font_length =? font_size) then 8
-    else if grey_mode r.grey r.overlay s.fx then 9
-    else if 8 <? ⁅ s.fx ⁆ then 10
-    else if smooth_scroll r.hdot r.grey s.fx s.cr then 18
-    else if 640 <? width r then 11
-    else if odd_lines s.ws s.lf then 12
-    else if s.tcr.0 <? s.cr.0 + 4 then 13
-    else if layer_order s.ws r.overlay r.blocks then 14
-    else if cursor_shape r.display.fc r.form s.fx then 15
-    else if ⁅ s.lf ⁆ ≤? n then 16
-    else if not (buffer_length =? width r) then 17
+    when not (memory_length =? memory_size) then 1
+    else when not (font_length =? font_size) then 8
+    else when grey_mode r.grey r.overlay s.fx then 9
+    else when 8 <? ⁅ s.fx ⁆ then 10
+    else when smooth_scroll r.hdot r.grey s.fx s.cr then 18
+    else when 640 <? width r then 11
+    else when odd_lines s.ws s.lf then 12
+    else when s.tcr.0 <? s.cr.0 + 4 then 13
+    else when layer_order s.ws r.overlay r.blocks then 14
+    else when cursor_shape r.display.fc r.form s.fx then 15
+    else when ⁅ s.lf ⁆ ≤? n then 16
+    else when not (buffer_length =? width r) then 17
     else 0

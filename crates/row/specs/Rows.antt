@@ -2,7 +2,7 @@
 use Rattle.std.specs.Prelude.{ℕ, List, [], length}
 use Rattle.registers.specs.declared.Answer.{Answer}
 use Rattle.registers.specs.declared.Registers.{Registers}
-use Rattle.choice.specs.Choice.{if◌then◌else◌, ◌=?◌}
+use Rattle.choice.specs.Choice.{when◌then◌else◌, ◌=?◌}
 use Rattle.registers.specs.Counts.{count}
 use Rattle.registers.specs.Refusals.{reply}
 use Rattle.registers.specs.Layout.{in_layout}
@@ -24,7 +24,7 @@ unfoldable pub row_answer : Registers → List ℕ → List ℕ → ℕ → ℕ 
 row_answer registers memory font frame n buffer_length =
     let r = in_layout registers in
     let refusal = row_refusal r (length memory) (length font) n buffer_length in
-    record { refusal = refusal; dots = if refusal =? 0 then dots r memory font frame n else [] }
+    record { refusal = refusal; dots = when refusal =? 0 then dots r memory font frame n else [] }
 
 -- what is left in the buffer: the row's dots; a refused row's buffer stands
 pub record RowOutcome : Type 0 where
@@ -34,7 +34,7 @@ pub record RowOutcome : Type 0 where
 unfoldable pub row_outcome : Registers → List ℕ → List ℕ → ℕ → ℕ → List ℕ → RowOutcome
 row_outcome registers memory font frame n buffer =
     let a = row_answer registers memory font frame n (length buffer) in
-    record { refusal = a.refusal; buffer = if a.refusal =? 0 then a.dots else buffer }
+    record { refusal = a.refusal; buffer = when a.refusal =? 0 then a.dots else buffer }
 
 -- the outcome that the code's answer stands for, with the buffer as it leaves it
 abbrev pub composed_outcome : Answer → List ℕ → RowOutcome

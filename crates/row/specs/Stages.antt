@@ -1,7 +1,7 @@
 -- What the stages of a row leave, whole bytes at a time. Laws in proofs/ give their dots.
 use Rattle.std.specs.Prelude.{◌≡◌, ℕ, ◌+◌, ◌*◌, ◌%◌, ◌<◌, ◌≤◌, true, List, [], ◌∷◌, length, ◌≢◌, bit_xor, slice_index}
 use Rattle.registers.specs.declared.Registers.{Registers}
-use Rattle.choice.specs.Choice.{if◌then◌else◌, ◌<?◌}
+use Rattle.choice.specs.Choice.{when◌then◌else◌, ◌<?◌}
 use Rattle.registers.specs.Counts.{⁅◌⁆}
 use Rattle.registers.specs.Sizes.{memory_size, font_size}
 use Rattle.row.specs.declared.LayerRow.{LayerRow}
@@ -15,11 +15,11 @@ line_address start pitch q = (start + q * pitch) % 65536
 
 -- a byte whose first n bits are set
 unfoldable pub first_bits : ℕ → ℕ
-first_bits n = if n <? 8 then slice_index (0 ∷ 128 ∷ 192 ∷ 224 ∷ 240 ∷ 248 ∷ 252 ∷ 254 ∷ []) n else 255
+first_bits n = when n <? 8 then slice_index (0 ∷ 128 ∷ 192 ∷ 224 ∷ 240 ∷ 248 ∷ 252 ∷ 254 ∷ []) n else 255
 
 -- a byte of layer 1 with the cursor's bits inverted
 unfoldable pub cursor_byte : Registers → ℕ → LayerRow → ℕ → ℕ → ℕ
-cursor_byte r frame layer c byte = if has_cursor r frame layer c then bit_xor byte (first_bits ⁅ r.form.crx ⁆) else byte
+cursor_byte r frame layer c byte = when has_cursor r frame layer c then bit_xor byte (first_bits ⁅ r.form.crx ⁆) else byte
 
 -- the dots of a line of bytes are those of the columns of row n
 abbrev pub ColumnDots : Registers → List ℕ → List ℕ → ℕ → ℕ → List ℕ → Type 0

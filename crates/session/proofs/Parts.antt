@@ -1,6 +1,6 @@
 -- Steps in a part of a file.
 use Rattle.std.proofs.Common.{◌≡◌, ℕ, ◌+◌, Bool, true, false, List, [], ◌++◌, length, refl, ap, ◌∙◌}
-use Rattle.choice.specs.Choice.{if◌then◌else◌}
+use Rattle.choice.specs.Choice.{when◌then◌else◌}
 use Rattle.busfile.specs.declared.Found.{Found}
 use Rattle.busfile.specs.declared.Found.TheVariants.{Record, Bad, End}
 use Rattle.busfile.specs.Records.{record_at}
@@ -36,16 +36,16 @@ steps_in_parts font before part after p h = (go p.more, go_lines p.more)
     same = parts_suffice before part after p.at h
 
     go : (more : Bool)
-        → further_on (length before) (if more then after_found font part p.at p.good (record_at part p.at) p.state else p)
-        ≡ (if more then after_found font file (length before + p.at) p.good (record_at file (length before + p.at)) p.state else further_on (length before) p)
+        → further_on (length before) (when more then after_found font part p.at p.good (record_at part p.at) p.state else p)
+        ≡ (when more then after_found font file (length before + p.at) p.good (record_at file (length before + p.at)) p.state else further_on (length before) p)
     go true =
         found_further font before part after p.at p.good p.state same (record_at part p.at) refl
         ∙ ap (λ (f : Found). after_found font file (length before + p.at) p.good f p.state) same.found
     go false = refl
 
     go_lines : (more : Bool)
-        → (if more then found_lines (following p.good) p.state.machine font part (record_at part p.at) else [])
-        ≡ (if more then found_lines (following p.good) p.state.machine font file (record_at file (length before + p.at)) else [])
+        → (when more then found_lines (following p.good) p.state.machine font part (record_at part p.at) else [])
+        ≡ (when more then found_lines (following p.good) p.state.machine font file (record_at file (length before + p.at)) else [])
     go_lines true =
         found_same (following p.good) p.state.machine font before part after p.at same (record_at part p.at) refl
         ∙ ap (found_lines (following p.good) p.state.machine font file) same.found

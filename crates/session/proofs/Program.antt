@@ -1,7 +1,7 @@
 -- All that the program prints of a file.
 use Rattle.std.proofs.Common.{◌≡◌, ℕ, zero, suc, ◌+◌, ◌-◌, ◌^◌, ◌<◌, ◌≤◌, Bool, true, false, List, [], ◌∷◌, ◌++◌, length, drop, replicate, sym, refl, ap, ◌∙◌, suc-add, zero-add, arith, length-take}
 use mathlib.Core.List.{flatten}
-use Rattle.choice.specs.Choice.{if◌then◌else◌}
+use Rattle.choice.specs.Choice.{when◌then◌else◌}
 use Rattle.registers.specs.Sizes.{memory_size}
 use Rattle.model.specs.Machine.{Machine}
 use Rattle.model.specs.Calls.{after}
@@ -110,7 +110,7 @@ module _ (font file : List ℕ) where
   stays zero p e = refl
   stays (suc k) p e =
       let found = after_found font file p.at p.good (record_at file p.at) p.state in
-      ap (λ (more : Bool). steps k font file (if more then found else p)) e ∙ stays k p e
+      ap (λ (more : Bool). steps k font file (when more then found else p)) e ∙ stays k p e
 
   -- so all numbers of steps after which a file has stopped come to the same
   same_stop : (k j : ℕ) (p : Progress) → (steps k font file p).more ≡ false → (steps j font file p).more ≡ false → steps k font file p ≡ steps j font file p

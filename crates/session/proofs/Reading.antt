@@ -1,7 +1,7 @@
 -- A file that is read in parts: one turn more.
 use Rattle.std.proofs.Common.{◌≡◌, ℕ, zero, suc, ◌+◌, ◌≤◌, Bool, true, false, ◌⊎◌, List, [], ◌++◌, length, replicate, sym, refl, ap, ◌∙◌, subst, inl, inr, ⊎_elim, append_assoc, append-nil, arith, length-append}
 use Rattle.registers.specs.Sizes.{memory_size}
-use Rattle.choice.specs.Choice.{if◌then◌else◌}
+use Rattle.choice.specs.Choice.{when◌then◌else◌}
 use Rattle.busfile.specs.declared.Found.{Found}
 use Rattle.busfile.specs.declared.Found.TheVariants.{Record, Bad, End}
 use Rattle.busfile.specs.Records.{record_at}
@@ -31,8 +31,8 @@ step_prints : (font file : List ℕ) (p : Progress) → (next_step font file p).
 step_prints font file p = go p.more (record_at file p.at)
   where
     go : (more : Bool) (f : Found)
-        → (if more then after_found font file p.at p.good f p.state else p).state.output
-        ≡ printed_all p.state.output (if more then found_lines (following p.good) p.state.machine font file f else [])
+        → (when more then after_found font file p.at p.good f p.state else p).state.output
+        ≡ printed_all p.state.output (when more then found_lines (following p.good) p.state.machine font file f else [])
     go false f = refl
     go true End = refl
     go true Bad = refl
@@ -106,7 +106,7 @@ pub place_within : (font part : List ℕ) (p : Progress) → p.at ≤ length par
 place_within font part p h = go p.more (record_at part p.at) refl
   where
     go : (more : Bool) (f : Found) → record_at part p.at ≡ f
-        → (if more then after_found font part p.at p.good f p.state else p).at ≤ length part
+        → (when more then after_found font part p.at p.good f p.state else p).at ≤ length part
     go false f e = h
     go true End e = h
     go true Bad e = h

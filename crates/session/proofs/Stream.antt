@@ -1,7 +1,7 @@
 -- Nothing that is printed is lost.
 use Rattle.std.proofs.Common.{◌≡◌, ℕ, ◌+◌, ◌≤◌, Bool, true, false, List, [], ◌∷◌, ◌++◌, length, take, drop, sym, refl, append_assoc, append-nil, arith, length-append, length-drop, length-take-le, ltb-false}
 use mathlib.Core.List.{flatten}
-use Rattle.choice.specs.Choice.{if◌then◌else◌, ◌<?◌}
+use Rattle.choice.specs.Choice.{when◌then◌else◌, ◌<?◌}
 use Rattle.lines.specs.Lines.{longest_line}
 use Rattle.lines.proofs.Buffers.{stands, front}
 use Rattle.session.specs.Output.{Buffer, used_before, printed}
@@ -9,11 +9,11 @@ use Rattle.session.specs.Stream.{held, Short, NothingLost}
 
 -- what is written out before a line comes, and the bytes that are still used then, are what the buffer held
 kept : (b : Buffer) (rest : List ℕ)
-    → (if length b.bytes <? b.used + longest_line then held b else []) ++ (take (used_before b) b.bytes ++ rest) ≡ held b ++ rest
+    → (when length b.bytes <? b.used + longest_line then held b else []) ++ (take (used_before b) b.bytes ++ rest) ≡ held b ++ rest
 unfolding used_before
 kept b rest = go (length b.bytes <? b.used + longest_line)
   where
-    go : (t : Bool) → (if t then held b else []) ++ (take (if t then 0 else b.used) b.bytes ++ rest) ≡ held b ++ rest
+    go : (t : Bool) → (when t then held b else []) ++ (take (when t then 0 else b.used) b.bytes ++ rest) ≡ held b ++ rest
     go true = refl
     go false = refl
 
@@ -23,7 +23,7 @@ module _ (b : Buffer) (line : List ℕ) (room : longest_line ≤ length b.bytes)
   unfolding used_before
   fits = go (length b.bytes <? b.used + longest_line) (ltb-false (length b.bytes) (b.used + longest_line))
     where
-      go : (t : Bool) → (t ≡ false → b.used + longest_line ≤ length b.bytes) → (if t then 0 else b.used) + length line ≤ length b.bytes
+      go : (t : Bool) → (t ≡ false → b.used + longest_line ≤ length b.bytes) → (when t then 0 else b.used) + length line ≤ length b.bytes
       go true f = omega arith
       go false f = omega (arith, f refl)
 

@@ -1,6 +1,6 @@
 -- Reference, 'The program'; 01, 'Bus file and its program': a file, record by record. Records are numbered from 1; a bad one stops.
 use Rattle.std.specs.Prelude.{ℕ, ◌+◌, ◌%◌, ◌^◌, Bool, true, false, List, [], ◌∷◌}
-use Rattle.choice.specs.Choice.{if◌then◌else◌}
+use Rattle.choice.specs.Choice.{when◌then◌else◌}
 use Rattle.busfile.specs.declared.Found.{Found}
 use Rattle.busfile.specs.declared.Found.TheVariants.{Record, Bad, End}
 use Rattle.busfile.specs.Records.{record_at, part_of}
@@ -49,9 +49,9 @@ after_found font file at good (Record r) s =
 -- one record of a file that goes on
 abbrev pub next_step : List ℕ → List ℕ → Progress → Progress
 next_step font file p =
-    if p.more then after_found font file p.at p.good (record_at file p.at) p.state else p
+    when p.more then after_found font file p.at p.good (record_at file p.at) p.state else p
 
 -- the lines that it prints
 abbrev pub step_lines : List ℕ → List ℕ → Progress → List (List ℕ)
 step_lines font file p =
-    if p.more then found_lines (following p.good) p.state.machine font file (record_at file p.at) else []
+    when p.more then found_lines (following p.good) p.state.machine font file (record_at file p.at) else []

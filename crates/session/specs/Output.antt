@@ -1,7 +1,7 @@
 -- Reference, 'The program': lines in the output's buffer. Each is put behind the used bytes, which are written out first where there is less room than
 -- for the longest line. One that does not fit is left out; LinesShort (Stream) says that none is.
 use Rattle.std.specs.Prelude.{◌≡◌, ℕ, ◌+◌, Bool, true, false, ◌||◌, ◌⊎◌, List, [], ◌∷◌, length}
-use Rattle.choice.specs.Choice.{if◌then◌else◌, ◌<?◌}
+use Rattle.choice.specs.Choice.{when◌then◌else◌, ◌<?◌}
 use Rattle.lines.specs.Lines.{appended, used_after, longest_line}
 use Rattle.session.specs.declared.Output.{Output}
 
@@ -18,7 +18,7 @@ is_full b = length b.bytes <? b.used + longest_line
 
 -- how many bytes are still used when a line comes
 unfoldable pub used_before : Buffer → ℕ
-used_before b = if is_full b then 0 else b.used
+used_before b = when is_full b then 0 else b.used
 
 abbrev pub printed : Buffer → List ℕ → Buffer
 printed b line = buffer (appended b.bytes (used_before b) line) (used_after b.bytes (used_before b) line)

@@ -1,6 +1,6 @@
 -- Reference, 'The program'; 01, 'Bus file and its program': what each record does, and the lines that it prints.
 use Rattle.std.specs.Prelude.{ℕ, zero, suc, ◌+◌, List, [], ◌∷◌, ◌++◌, replicate}
-use Rattle.choice.specs.Choice.{if◌then◌else◌, ◌=?◌}
+use Rattle.choice.specs.Choice.{when◌then◌else◌, ◌=?◌}
 use Rattle.registers.specs.Refusals.{Reply}
 use Rattle.row.specs.Rows.{RowAnswer, row_answer, frame_size}
 use Rattle.model.specs.Machine.{Machine, machine}
@@ -22,10 +22,10 @@ record_calls Frame payload = []
 -- Their lines: `refused RECORD BYTE NUMBER`, or of a read that is not refused `read RECORD INDEX VALUE`
 
 abbrev pub write_reply_lines : ℕ → ℕ → Reply → List (List ℕ)
-write_reply_lines r k a = if a.refusal =? 0 then [] else refused_line r k a.refusal ∷ []
+write_reply_lines r k a = when a.refusal =? 0 then [] else refused_line r k a.refusal ∷ []
 
 abbrev pub read_reply_lines : ℕ → ℕ → Reply → List (List ℕ)
-read_reply_lines r k a = if a.refusal =? 0 then read_line r k a.value ∷ [] else refused_line r k a.refusal ∷ []
+read_reply_lines r k a = when a.refusal =? 0 then read_line r k a.value ∷ [] else refused_line r k a.refusal ∷ []
 
 abbrev pub call_lines : ℕ → ℕ → BusCall → Reply → List (List ℕ)
 call_lines r k (command b) a = write_reply_lines r k a
@@ -47,7 +47,7 @@ row_lines row n (suc k) = row_line (row n).dots ∷ row_lines row (n + 1) k
 
 abbrev pub framed : ℕ → ℕ → ℕ → ℕ → (ℕ → RowAnswer) → List (List ℕ)
 framed r frame width rows row =
-    if (row 0).refusal =? 0 then frame_line r frame width rows ∷ row_lines row 0 rows
+    when (row 0).refusal =? 0 then frame_line r frame width rows ∷ row_lines row 0 rows
     else refused_line r 0 (row 0).refusal ∷ []
 
 -- row n, asked of a machine with a buffer of a length

@@ -1,7 +1,7 @@
 -- Reference, 'The program': nothing that is printed is lost: what was written out of the buffer and what it still holds are all its lines, one behind the other.
 use Rattle.std.specs.Prelude.{◌≡◌, ℕ, ◌^◌, ◌<◌, ◌≤◌, List, [], ◌∷◌, ◌++◌, length, take}
 use mathlib.Core.List.{flatten}
-use Rattle.choice.specs.Choice.{if◌then◌else◌}
+use Rattle.choice.specs.Choice.{when◌then◌else◌}
 use Rattle.model.specs.Machine.{Machine}
 use Rattle.model.specs.Refresh.{All, Byte}
 use Rattle.busfile.specs.declared.Kind.{Kind}
@@ -17,7 +17,7 @@ held b = take b.used b.bytes
 abbrev pub written_out : Buffer → List (List ℕ) → List ℕ
 written_out b [] = []
 written_out b (line ∷ lines) =
-    (if is_full b then held b else []) ++ written_out (printed b line) lines
+    (when is_full b then held b else []) ++ written_out (printed b line) lines
 
 abbrev pub Short : List ℕ → Type 0
 Short line = length line ≤ longest_line

@@ -17,9 +17,9 @@ returns g c =
       last = last;
       takes = takes;
       ran = cleared;
-      memory-left = refl;
+      memory_left = refl;
       ends = sym c.finish.ensures.out_after;
-      nothing-held = c.finish.ensures.used_value;
+      nothing_held = c.finish.ensures.used_value;
       stays = c.finish.ensures.open_after;
       whole = λ stopped bytes. run_prints a.font.now a.out.now (2 ^ 64 - 1) last takes cleared stopped bytes c.requires.1;
     }

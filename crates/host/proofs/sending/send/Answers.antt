@@ -33,7 +33,7 @@ loop-i-init c =
     record {
       sent = run_sent first (rw part_to_end at c.write_run-run.ensures) (told_zeros c.clear.new.line c.number-first.result cleared same) as_long;
       few = rw c.refusal_count-refused.ensures (omega (arith, one_refusal c.number-first.result));
-      as_long = as_long
+      as_long = as_long;
     }
 
 pub loop-i-preserved : goal.loop-i-preserved
@@ -42,5 +42,5 @@ loop-i-preserved c =
     record {
       sent = write_sent l.invariant.sent c.loop-i-test.true (rw l.invariant.as_long c.loop-i-test.true) c.data_write-written.ensures c.number-n.ensures (ap (λ (k : ℕ). l.refused + k) c.refusal_count-refused-in-loop-i.ensures);
       few = rw c.refusal_count-refused-in-loop-i.ensures (omega (arith, l.invariant.few, one_refusal c.number-n.result));
-      as_long = length-set l.answers l.i c.number-n.result ∙ l.invariant.as_long
+      as_long = length-set l.answers l.i c.number-n.result ∙ l.invariant.as_long;
     }

@@ -9,7 +9,7 @@ invariant-loop-i l =
     record {
       sent : SentSoFar (machine l.fn.c l.fn.memory) l.bytes l.i l.refused (machine l.controller l.memory) l.answers;
       few : l.refused ≤ l.i;
-      as_long : length l.answers ≡ length l.bytes
+      as_long : length l.answers ≡ length l.bytes;
     }
 
 abbrev pub decreases-loop-i : goal.decreases-loop-i

@@ -7,7 +7,6 @@ ghost use Rattle.registers.specs.Sizes.{memory_size, font_size};
 
 use model::Controller;
 use registers::{Answer, FONT_SIZE, MEMORY_SIZE};
-use std::io;
 
 fn display_memory() -> [u8; MEMORY_SIZE]
     ensures { memory_size ≡ length result }
@@ -39,21 +38,22 @@ fn two_lines(memory: &mut [u8]) -> Controller {
     sent(c, memory, 0, 4, 1)
 }
 
-fn ask(rt: &impl Print, c: Controller, memory: &[u8], font: &[u8], row: u32) -> io::Result<()> {
+fn ask(rt: &impl Print, c: Controller, memory: &[u8], font: &[u8], row: u32) {
     let mut out = [0u8; 8];
     let answer = c.row(memory, font, 0, row, &mut out);
     let number = match answer {
         Answer::Accepted => 0,
         Answer::Refused(refusal) => refusal.number(),
     };
-    println!(rt; "{number}")
+    // The gate compares what arrives, so a write that fails shows there.
+    let _ = println!(rt; "{number}");
 }
 
-fn main(rt: HostRuntime) -> io::Result<()> {
+fn main(rt: HostRuntime) {
     let mut memory = display_memory();
     let font = font();
     let c = two_lines(&mut memory);
-    ask(&rt, c, &memory, &font, 0)?;
-    ask(&rt, c, &memory, &font, 1)?;
-    ask(&rt, c, &memory, &font, 2)
+    ask(&rt, c, &memory, &font, 0);
+    ask(&rt, c, &memory, &font, 1);
+    ask(&rt, c, &memory, &font, 2);
 }

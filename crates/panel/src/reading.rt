@@ -6,7 +6,7 @@ ghost use Rattle.panel.specs.Reading.{InPart, Filled};
 use crate::Run;
 use registers::FONT_SIZE;
 use std::fs;
-use std::io::{ErrorKind, Read};
+use std::io::Read;
 use std::rt::Files;
 
 const FONT_ROOM: usize = FONT_SIZE + 1;
@@ -32,8 +32,8 @@ pub fn output_buffer() -> [u8; 65536]
     [0; 65536]
 }
 
-// Reads until the buffer is full, the input ends or a read fails, and answers how many bytes came. A read that was interrupted
-// is tried again. The count of turns, which no input uses up, is there so that the loop is seen to end.
+// Reads until the buffer is full, the input ends or a read fails, and answers how many bytes came. The count of turns, which
+// no input uses up, is there so that the loop is seen to end.
 fn read_full(reader: &mut impl Read, buffer: &mut [u8]) -> usize
     ensures { result ≤ length buffer.new }
 {
@@ -45,11 +45,7 @@ fn read_full(reader: &mut impl Read, buffer: &mut [u8]) -> usize
         match reader.read(&mut buffer[done..]) {
             Ok(0) => break,
             Ok(n) => done += n,
-            Err(e) => {
-                if e.kind() != ErrorKind::Interrupted {
-                    break;
-                }
-            }
+            Err(_) => break,
         }
     }
     done

@@ -35,13 +35,13 @@ module _ (font input input' memory memory' out out' file : List ℕ) (run r : Ru
       (subst (λ (l : List ℕ). OpenAfter r.step.session.output.open (flushes (buffer out r.step.session.output.used) (step_lines font l (progress r.step memory out))) s.session.output.open)
       part opened)
 
-  pub turn_done : (start : Progress) (k : ℕ) → Done font start k run memory out input → Done font start (suc k) (record { step = s; part = r.part }) memory' out' input'
+  turn_done : (start : Progress) (k : ℕ) → Done font start k run memory out input → Done font start (suc k) (record { step = s; part = r.part }) memory' out' input'
   turn_done start k h =
       subst (λ (p : Progress). SoFar font start (suc k) p s.session.output.open (at_hand r input') r.part.ended) (sym stepped)
       (turn_more font start k (progress run.step memory out) (at_hand run input) (at_hand r input') r.step.at run.step.session.output.open s.session.output.open
       run.part.ended r.part.ended h filled.reads reopened)
 
-  pub turn_inside : InPart (record { step = s; part = r.part }) input'
+  turn_inside : InPart (record { step = s; part = r.part }) input'
   turn_inside =
       let size = length-take-le r.part.filled input' filled.inside.part in
       let start : r.step.at ≤ length (at_hand r input') = omega (arith, size, filled.inside.place) in
@@ -51,6 +51,11 @@ module _ (font input input' memory memory' out out' file : List ℕ) (run r : Ru
         part = filled.inside.part;
         roomy = filled.inside.roomy;
       }
+
+  -- the turn is inside its part, and does one step more
+  pub turned : InPart (record { step = s; part = r.part }) input'
+      × ((start : Progress) (k : ℕ) → Done font start k run memory out input → Done font start (suc k) (record { step = s; part = r.part }) memory' out' input')
+  turned = (turn_inside, turn_done)
 
 -- no step is done
 pub started : (font : List ℕ) (start p : Progress) (takes : Bool) (part : List ℕ) (ended : Bool) → p ≡ start → takes ≡ true → SoFar font start 0 p takes part ended

@@ -10,20 +10,17 @@ pub fn dots_per_column(grey: u8, fx: Code) -> u16
     requires { grey < 3 }
     ensures { result ≡ dots_per_column grey fx }
 {
-    if grey == 0 {
-        return fx.count().0;
+    match grey {
+        0 => fx.count().0,
+        1 => 4,
+        _ => 2,
     }
-    if grey == 1 {
-        return 4;
-    }
-    2
 }
 
 pub fn columns(cr: Code) -> usize
     ensures { (result ≡ ⁅ cr ⁆) × (result ≤ 256) }
 {
-    let count = cr.count();
-    count.0 as usize
+    cr.count().0 as usize
 }
 
 // The columns that a row shows.
@@ -32,10 +29,7 @@ pub fn shown_columns(hdot: u8, cr: Code) -> usize
     ensures { (result ≡ shown_columns hdot cr) × (result ≤ 256) }
 {
     let count = columns(cr);
-    if hdot == 0 {
-        return count;
-    }
-    count - 1
+    if hdot == 0 { count } else { count - 1 }
 }
 
 // How many dots they have.

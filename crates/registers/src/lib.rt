@@ -28,14 +28,13 @@ impl Code {
     pub fn count(self) -> Count
         ensures { result ≡ count self }
     {
-        Count(self.0 as u16 + 1)
+        Count(u16::from(self.0) + 1)
     }
 }
 
-// A command of the command table, or none.
-#[derive(Clone, Copy)]
+// A command of the command table.
+#[derive(Clone, Copy, PartialEq, Eq)]
 pub enum Command {
-    None,
     SystemSet,
     SleepIn,
     Disp,
@@ -134,7 +133,7 @@ pub struct Registers {
     pub asleep: bool,
 }
 
-// The refusals, in the order of their numbers.
+// The refusals, in the order of their numbers: the error of a call that is refused.
 #[derive(Clone, Copy)]
 pub enum Refusal {
     MemorySize,
@@ -156,18 +155,4 @@ pub enum Refusal {
     BufferSize,
     SmoothScroll,
     DisplayOff,
-}
-
-// What a write or a row answers.
-#[derive(Clone, Copy)]
-pub enum Answer {
-    Accepted,
-    Refused(Refusal),
-}
-
-// What a read answers.
-#[derive(Clone, Copy)]
-pub enum ReadAnswer {
-    Value(u8),
-    Refused(Refusal),
 }

@@ -1,5 +1,5 @@
 -- A command is known by its code.
-use Rattle.std.proofs.Common.{◌≡◌, true, Option, Some, sym, refl, ap, ◌∙◌, eqb-true}
+use Rattle.std.proofs.Common.{◌≡◌, true, Some, sym, refl, ap, ◌∙◌, eqb-true}
 use Rattle.registers.specs.declared.Command.{Command}
 use Rattle.registers.specs.declared.Command.TheVariants.{SystemSet, SleepIn, Disp, Scroll, CsrForm, CsrDir, Ovlay, CgramAdr, HdotScr, GrayScale, Csrw, Csrr, Mwrite, Mread}
 use Rattle.registers.specs.Commands.{command_of, code, ◌is◌}

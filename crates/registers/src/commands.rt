@@ -67,7 +67,8 @@ impl Command {
             Command::Scroll => 10,
             Command::CsrForm | Command::CgramAdr | Command::Csrw => 2,
             Command::Disp | Command::Ovlay | Command::HdotScr | Command::GrayScale => 1,
-            Command::SleepIn | Command::CsrDir | Command::Csrr | Command::Mwrite | Command::Mread => 0,
+            Command::SleepIn | Command::CsrDir | Command::Csrr | Command::Mwrite | Command::Mread =>
+                0,
         }
     }
 }

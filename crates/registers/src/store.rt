@@ -43,53 +43,7 @@ impl Registers {
     pub fn reset() -> Registers
         ensures { result ≡ reset_registers }
     {
-        Registers {
-            system: System {
-                iv: false,
-                ws: false,
-                m2: false,
-                m0: false,
-                wf: false,
-                fx: Code(0),
-                fy: Code(0),
-                cr: Code(0),
-                tcr: Code(0),
-                lf: Code(0),
-                ap: 0,
-            },
-            display: Display {
-                on: false,
-                fp: 0,
-                fc: 0,
-            },
-            blocks: Blocks {
-                sad1: 0,
-                sl1: Code(0),
-                sad2: 0,
-                sl2: Code(0),
-                sad3: 0,
-                sad4: 0,
-            },
-            form: CursorForm {
-                crx: Code(0),
-                cm: false,
-                cry: Code(0),
-            },
-            overlay: Overlay {
-                ov: false,
-                dm2: false,
-                dm1: false,
-                mx: 0,
-            },
-            cgram: 0,
-            hdot: 0,
-            grey: 0,
-            cursor: Cursor {
-                address: 0,
-                direction: Direction::Right,
-            },
-            asleep: false,
-        }
+        Registers::default()
     }
 
     // What the byte b of a command sets at once.

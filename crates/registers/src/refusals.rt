@@ -4,11 +4,11 @@ ghost use Rattle.registers.specs.Refusals.{number};
 
 use crate::Refusal;
 
-impl Refusal {
-    pub fn number(self) -> u8
-        ensures { result ≡ number self }
-    {
-        match self {
+impl From<Refusal> for u8 {
+    ghost from_gives = { λ refusal n. n ≡ number refusal };
+
+    fn from(refusal: Refusal) -> u8 {
+        match refusal {
             Refusal::MemorySize => 1,
             Refusal::UnknownCommand => 2,
             Refusal::NothingWanted => 3,

@@ -1,5 +1,5 @@
 -- What the stages of a row leave, whole bytes at a time. Laws in proofs/ give their dots.
-use Rattle.std.specs.Prelude.{◌≡◌, ℕ, ◌+◌, ◌*◌, ◌%◌, ◌<◌, ◌≤◌, true, List, [], ◌∷◌, length, ◌≢◌, bit_xor, slice_index, Option}
+use Rattle.std.specs.Prelude.{◌≡◌, ℕ, ◌+◌, ◌*◌, ◌%◌, ◌<◌, ◌≤◌, true, List, [], ◌∷◌, ◌≢◌, bit_xor, slice_index, Option}
 use Rattle.registers.specs.declared.Registers.{Registers}
 use Rattle.choice.specs.Choice.{when◌then◌else◌, ◌<?◌}
 use Rattle.registers.specs.Counts.{⁅◌⁆}

@@ -1,11 +1,18 @@
 // The four screen blocks.
 ghost use Rattle.std.specs.Prelude.{◌≡◌};
-ghost use Rattle.row.specs.Layers.{is_text, sad};
+ghost use Rattle.row.specs.Layers.{is_text, sad, block_row};
 
-use crate::Block;
+use crate::{Block, BlockRow};
 use registers::{Blocks, Overlay};
 
 impl Block {
+    // A row of it.
+    pub(crate) fn row(self, row: u16) -> BlockRow
+        ensures { result ≡ block_row self row }
+    {
+        BlockRow { block: self, row }
+    }
+
     #[tactic(auto, unfolding(crate::specs::Layers::is_text))]
     pub fn is_text(self, o: Overlay) -> bool
         ensures { result ≡ is_text o self }

@@ -28,33 +28,37 @@ fn in_shape(f: CursorForm, row: u16) -> bool
     ensures { result ≡ in_shape f row }
 {
     let height = f.cry.count().0;
-    if f.cm { row < height } else { row == height - 1 }
+    if f.cm {
+        row < height
+    } else {
+        row == height - 1
+    }
 }
 
 impl Scene<'_> {
     // Whether the cursor shows on a row of a block: then it inverts the cells whose code address it is.
-    fn shows_cursor(&self, b: BlockRow) -> bool
-        ensures { result ≡ shows_cursor self.now.registers self.now.frame b }
+    fn shows_cursor(&self, shown: BlockRow) -> bool
+        ensures { result ≡ shows_cursor self.now.registers self.now.frame shown }
     {
         let r = &self.registers;
         !three_layers(r.system.ws, r.overlay)
-            && b.block.is_text(r.overlay)
+            && shown.block.is_text(r.overlay)
             && flashes(r.display.fc, 64, self.frame)
-            && in_shape(r.form, b.row % r.system.fy.count().0)
+            && in_shape(r.form, shown.row % r.system.fy.count().0)
     }
 
     // Stage 2 of a row: the cursor in the bytes of layer 1. A row has at most one column at its address.
     #[tactic(auto, unfolding(crate::specs::Cursor::has_cursor))]
     pub fn invert(&self, layer: Option<BlockRow>, line: &mut [u8])
         requires { length line.old ≤ 65536 }
-        ensures { line.new
-            ≡ table (length line.old) (λ c. cursor_byte self.now.registers self.now.frame layer c (slice_index line.old c)) }
+        ensures { let s = self.now in
+            line.new ≡ table (length line.old) (λ c. cursor_byte s.registers s.frame layer c (slice_index line.old c)) }
     {
-        let Some(b) = layer else { return };
-        if self.shows_cursor(b) {
+        let Some(shown) = layer else { return };
+        if self.shows_cursor(shown) {
             let r = &self.registers;
-            let text_line = b.row / r.system.fy.count().0;
-            let start = line_address(b.block.sad(r.blocks), r.system.ap, text_line);
+            let text_line = shown.row / r.system.fy.count().0;
+            let start = line_address(shown.block.sad(r.blocks), r.system.ap, text_line);
             let at = r.cursor.address.wrapping_sub(start) as usize;
             if at < line.len() {
                 line[at] ^= first_bits(r.form.crx);

@@ -36,8 +36,8 @@ fn memory_bytes(memory: &[u8; MEMORY_SIZE], start: u16, line: &mut [u8])
 impl Scene<'_> {
     // A glyph row of each code, in the code's place.
     fn glyph_bytes(&self, row: u16, line: &mut [u8])
-        ensures { line.new ≡ table (length line.old)
-            (λ c. glyph_byte self.now.registers.system.m0 self.now.registers.system.m2 self.now.registers.cgram self.now.memory.now self.now.font.now (slice_index line.old c) row) }
+        ensures { let s = self.now in
+            line.new ≡ table (length line.old) (λ c. glyph_byte s.registers s.memory.now s.font.now (slice_index line.old c) row) }
     {
         for byte in line.iter_mut() {
             *byte = self.glyph_byte(*byte, row);
@@ -45,29 +45,32 @@ impl Scene<'_> {
     }
 
     // The bytes of a row of text or graphics.
-    fn block_bytes(&self, b: BlockRow, line: &mut [u8])
-        ensures { line.new ≡ table (length line.old) (block_byte self.now.registers self.now.memory.now self.now.font.now b) }
+    fn block_bytes(&self, shown: BlockRow, line: &mut [u8])
+        ensures { let s = self.now in
+            line.new ≡ table (length line.old) (block_byte s.registers s.memory.now s.font.now shown) }
     {
         let r = &self.registers;
-        let start = b.block.sad(r.blocks);
+        let start = shown.block.sad(r.blocks);
         let pitch = r.system.ap;
-        if b.block.is_text(r.overlay) {
+        if shown.block.is_text(r.overlay) {
             let height = r.system.fy.count().0;
-            memory_bytes(self.memory, line_address(start, pitch, b.row / height), line);
-            self.glyph_bytes(b.row % height, line);
+            let text_line = shown.row / height;
+            memory_bytes(self.memory, line_address(start, pitch, text_line), line);
+            self.glyph_bytes(shown.row % height, line);
         } else {
-            memory_bytes(self.memory, line_address(start, pitch, b.row), line);
+            memory_bytes(self.memory, line_address(start, pitch, shown.row), line);
         }
     }
 
     // The bytes of a layer: zeros where it shows nothing, or FP darkens its block.
     #[tactic(auto, unfolding(crate::specs::Dots::layer_byte))]
     pub fn layer_bytes(&self, layer: Option<BlockRow>, line: &mut [u8])
-        ensures { line.new
-            ≡ table (length line.old) (layer_byte self.now.registers self.now.memory.now self.now.font.now self.now.frame layer) }
+        ensures { let s = self.now in
+            line.new ≡ table (length line.old) (layer_byte s.registers s.memory.now s.font.now s.frame layer) }
     {
+        let fp = self.registers.display.fp;
         match layer {
-            Some(b) if b.block.is_lit(self.registers.display.fp, self.frame) => self.block_bytes(b, line),
+            Some(shown) if shown.block.is_lit(fp, self.frame) => self.block_bytes(shown, line),
             _ => clear(line),
         }
     }

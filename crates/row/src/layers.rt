@@ -19,9 +19,9 @@ fn split(block: Block, sl: Code, n: u16) -> BlockRow
 {
     let lines = sl.count().0;
     if n < lines {
-        BlockRow { block, row: n }
+        block.row(n)
     } else {
-        BlockRow { block: Block::Three, row: n - lines }
+        Block::Three.row(n - lines)
     }
 }
 
@@ -32,9 +32,9 @@ fn halves(upper: Block, lower: Block, lf: Code, sl: Code, n: u16) -> Option<Bloc
 {
     let half = lf.count().0 / 2;
     if half <= n {
-        Some(BlockRow { block: lower, row: n - half })
+        Some(lower.row(n - half))
     } else if n < sl.count().0 {
-        Some(BlockRow { block: upper, row: n })
+        Some(upper.row(n))
     } else {
         None
     }
@@ -56,7 +56,7 @@ fn two_blocks(
     } else if splits && !three_layers(r.system.ws, r.overlay) {
         Some(split(first, sl, n))
     } else {
-        Some(BlockRow { block: first, row: n })
+        Some(first.row(n))
     }
 }
 
@@ -80,5 +80,5 @@ pub fn layer2(r: &Registers, n: u16) -> Option<BlockRow>
 pub fn layer3(r: &Registers, n: u16) -> Option<BlockRow>
     ensures { result ≡ layer3 r.now n }
 {
-    three_layers(r.system.ws, r.overlay).then_some(BlockRow { block: Block::Three, row: n })
+    three_layers(r.system.ws, r.overlay).then_some(Block::Three.row(n))
 }

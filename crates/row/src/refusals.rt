@@ -5,7 +5,7 @@ ghost use Rattle.registers.specs.Sizes.{memory_size, font_size};
 ghost use Rattle.row.specs.Refusals.{grey_mode, smooth_scroll, odd_lines, layer_order, cursor_shape, row_refusal};
 
 use crate::layers::three_layers;
-use crate::width::{dots_per_column, row_width};
+use crate::width::row_width;
 use registers::{Blocks, Code, CursorForm, Overlay, Refusal, Registers};
 
 #[tactic(auto, unfolding(crate::specs::Refusals::grey_mode))]
@@ -44,14 +44,14 @@ fn cursor_shape(fc: u8, f: CursorForm, fx: Code) -> bool
 }
 
 // The first refusal that applies to row n, with memory and font of their sizes. An accepted row number fits 16 bits.
-#[tactic(auto, unfolding(crate::specs::Dots::width, crate::specs::Refusals::row_refusal))]
+#[tactic(auto, unfolding(crate::specs::Refusals::row_refusal))]
 pub fn check_row(r: &Registers, n: u32, buffer_length: usize) -> Result<(), Refusal>
     requires { r.now.grey < 3 }
     ensures result_value { (reply result).refusal ≡ row_refusal r.now memory_size font_size n buffer_length }
     ensures n_bound { OnOk result (n < 65536) }
 {
     let s = &r.system;
-    let width = row_width(r.hdot, s.cr, dots_per_column(r.grey, s.fx));
+    let width = row_width(r);
     if grey_mode(r.grey, r.overlay, s.fx) {
         return Err(Refusal::GreyMode);
     }

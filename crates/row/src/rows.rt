@@ -2,7 +2,7 @@
 ghost use Rattle.std.specs.Prelude.{◌≡◌, ◌+◌, ◌≤◌, length};
 ghost use Rattle.registers.specs.Counts.{⁅◌⁆};
 ghost use Rattle.dots.specs.Tables.{table};
-ghost use Rattle.row.specs.Dots.{width, composed_dot, dots};
+ghost use Rattle.row.specs.Dots.{width, composed_dot, is_shown, dots};
 ghost use Rattle.row.specs.Rows.{frame_size, row_outcome, composed_outcome};
 ghost use Rattle.row.specs.Stages.{ColumnDots};
 
@@ -17,9 +17,9 @@ use registers::{FONT_SIZE, MEMORY_SIZE, Refusal, Registers};
 impl Scene<'_> {
     // The bytes of row n, all layers mixed.
     fn mix_layers(&self, n: u16, line: &mut [u8], scratch: &mut [u8])
-        requires columns { length line.old ≡ ⁅ self.now.registers.system.cr ⁆ }
-        requires as_long { length scratch.old ≡ length line.old }
-        ensures { ColumnDots self.now.registers self.now.memory.now self.now.font.now self.now.frame n line.new }
+        requires line { (length line.old ≡ ⁅ self.now.registers.system.cr ⁆) × (length line.old ≤ 256) }
+        requires scratch { length scratch.old ≡ ⁅ self.now.registers.system.cr ⁆ }
+        ensures { let s = self.now in ColumnDots s.registers s.memory.now s.font.now s.frame n line.new }
     {
         let r = &self.registers;
         let layer = layer1(r, n);
@@ -39,8 +39,8 @@ impl Scene<'_> {
     #[tactic(auto, unfolding(crate::specs::Dots::width))]
     fn paint(&self, n: u16, out: &mut [u8])
         requires { length out.old ≡ width self.now.registers }
-        ensures { out.new ≡ table (width self.now.registers)
-            (λ x. composed_dot self.now.registers self.now.memory.now self.now.font.now self.now.frame n (x + self.now.registers.hdot)) }
+        ensures { let s = self.now in
+            out.new ≡ table (width s.registers) (λ x. composed_dot s.registers s.memory.now s.font.now s.frame n (x + s.registers.hdot)) }
     {
         let r = &self.registers;
         let count = columns(r.system.cr);
@@ -52,12 +52,18 @@ impl Scene<'_> {
         expand_scrolled(r.grey, per, r.hdot as usize, shown, line, out);
     }
 
+    fn is_shown(&self) -> bool
+        ensures { result ≡ is_shown self.now.registers.display.on self.now.registers.asleep }
+    {
+        self.registers.display.on && !self.registers.asleep
+    }
+
     // The dots of row n: 0 with the display off, or asleep.
     fn draw(&self, n: u16, out: &mut [u8])
         requires { length out.old ≡ width self.now.registers }
-        ensures { out.new ≡ dots self.now.registers self.now.memory.now self.now.font.now self.now.frame n }
+        ensures { let s = self.now in out.new ≡ dots s.registers s.memory.now s.font.now s.frame n }
     {
-        if self.registers.display.on && !self.registers.asleep {
+        if self.is_shown() {
             self.paint(n, out);
         } else {
             clear(out);
@@ -66,14 +72,12 @@ impl Scene<'_> {
 }
 
 // How large a frame is, refused or not.
-#[tactic(auto, unfolding(crate::specs::Dots::dots_per_column, registers::specs::Layout::in_layout, crate::specs::Dots::width))]
 pub fn frame_size(registers: Registers) -> FrameSize
     ensures { result ≡ frame_size registers }
 {
     let r = registers.in_layout();
-    let width = row_width(r.hdot, r.system.cr, dots_per_column(r.grey, r.system.fx));
     FrameSize {
-        width: width as u16,
+        width: row_width(&r) as u16,
         rows: r.system.lf.count(),
     }
 }
@@ -91,10 +95,20 @@ pub fn compose(
     ensures { composed_outcome result out.new
         ≡ row_outcome registers memory.now font.now frame n out.old }
 {
-    let memory = <&[u8; MEMORY_SIZE]>::try_from(memory).map_err(|_| Refusal::MemorySize)?;
-    let font = <&[u8; FONT_SIZE]>::try_from(font).map_err(|_| Refusal::FontSize)?;
+    let Ok(memory) = <&[u8; MEMORY_SIZE]>::try_from(memory) else {
+        return Err(Refusal::MemorySize);
+    };
+    let Ok(font) = <&[u8; FONT_SIZE]>::try_from(font) else {
+        return Err(Refusal::FontSize);
+    };
     let registers = registers.in_layout();
     check_row(&registers, n, out.len())?;
-    Scene { registers, memory, font, frame }.draw(n as u16, out);
+    Scene {
+        registers,
+        memory,
+        font,
+        frame,
+    }
+    .draw(n as u16, out);
     Ok(())
 }

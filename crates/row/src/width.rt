@@ -1,9 +1,9 @@
 // How wide a row is.
 ghost use Rattle.std.specs.Prelude.{◌≡◌, ◌*◌, ◌<◌, ◌≤◌};
 ghost use Rattle.registers.specs.Counts.{⁅◌⁆};
-ghost use Rattle.row.specs.Dots.{dots_per_column, shown_columns};
+ghost use Rattle.row.specs.Dots.{dots_per_column, shown_columns, width};
 
-use registers::Code;
+use registers::{Code, Registers};
 
 #[tactic(auto, unfolding(crate::specs::Dots::dots_per_column))]
 pub fn dots_per_column(grey: u8, fx: Code) -> u16
@@ -33,8 +33,10 @@ pub fn shown_columns(hdot: u8, cr: Code) -> usize
 }
 
 // How many dots they have.
-pub fn row_width(hdot: u8, cr: Code, per: u16) -> usize
-    ensures { (result ≡ shown_columns hdot cr * per) × (result ≤ 256 * per) }
+#[tactic(auto, unfolding(crate::specs::Dots::width))]
+pub fn row_width(r: &Registers) -> usize
+    requires { r.now.grey < 3 }
+    ensures { result ≡ width r.now }
 {
-    shown_columns(hdot, cr) * per as usize
+    shown_columns(r.hdot, r.system.cr) * dots_per_column(r.grey, r.system.fx) as usize
 }

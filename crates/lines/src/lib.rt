@@ -2,15 +2,15 @@
 // then; one that does not fit is left out whole.
 #![tactic(auto)]
 
-mod pieces;
+mod text;
 
 ghost use Rattle.std.specs.Prelude.{◌≡◌};
 ghost use Rattle.lines.specs.Lines.{line_text, row_line, appended, used_after};
 
-use pieces::{hex_digit, put_line};
+use text::hex_digit;
 
 // Every line but a row of dots.
-#[derive(Clone, Copy)]
+#[derive(Clone, Copy, PartialEq, Eq, Debug)]
 pub enum Line {
     // `refused RECORD BYTE NUMBER`
     Refused(u64, u64, u8),
@@ -28,29 +28,13 @@ pub fn append_line(buffer: &mut [u8], used: usize, line: Line) -> usize
     ensures value { result ≡ used_after buffer.old used (line_text line) }
     ensures buffer_after { buffer.new ≡ appended buffer.old used (line_text line) }
 {
-    match line {
-        Line::Refused(record, byte, number) => {
-            let numbers = [record, byte, number as u64];
-            put_line(buffer, used, b"refused", &numbers, b"\n")
-        }
-        Line::Read(record, index, value) => {
-            let numbers = [record, index];
-            let end = [b' ', hex_digit(value / 16), hex_digit(value), b'\n'];
-            put_line(buffer, used, b"read", &numbers, &end)
-        }
-        Line::Frame(record, frame, width, rows) => {
-            let numbers = [record, frame as u64, width as u64, rows as u64];
-            put_line(buffer, used, b"frame", &numbers, b"\n")
-        }
-        Line::Bad(record) => {
-            let numbers = [record];
-            put_line(buffer, used, b"bad", &numbers, b"\n")
-        }
-        Line::End(count) => {
-            let numbers = [count];
-            put_line(buffer, used, b"end", &numbers, b"\n")
-        }
+    let text = line.text();
+    let end = used.saturating_add(text.len());
+    if buffer.len() < end {
+        return used;
     }
+    buffer[used..end].copy_from_slice(text.as_bytes());
+    end
 }
 
 // A row, one hex digit a dot.
@@ -59,17 +43,13 @@ pub fn append_row(buffer: &mut [u8], used: usize, dots: &[u8]) -> usize
     ensures value { result ≡ used_after buffer.old used (row_line dots.now) }
     ensures buffer_after { buffer.new ≡ appended buffer.old used (row_line dots.now) }
 {
-    if buffer.len() < used {
+    let end = used.saturating_add(dots.len());
+    if buffer.len() <= end {
         return used;
     }
-    if buffer.len() - used <= dots.len() {
-        return used;
+    for (i, &dot) in dots.iter().enumerate() {
+        buffer[used + i] = hex_digit(dot);
     }
-    let mut i: usize = 0;
-    while i < dots.len() {
-        buffer[used + i] = hex_digit(dots[i]);
-        i += 1;
-    }
-    buffer[used + i] = b'\n';
-    used + i + 1
+    buffer[end] = b'\n';
+    end + 1
 }

@@ -33,27 +33,11 @@ impl TryFrom<u8> for Command {
     }
 }
 
-// The code of a command, the first of a range.
 impl From<Command> for u8 {
     ghost from_gives = { λ command b. b ≡ code command };
 
     fn from(command: Command) -> u8 {
-        match command {
-            Command::SystemSet => 0x40,
-            Command::SleepIn => 0x53,
-            Command::Disp => 0x58,
-            Command::Scroll => 0x44,
-            Command::CsrForm => 0x5D,
-            Command::CsrDir => 0x4C,
-            Command::Ovlay => 0x5B,
-            Command::CgramAdr => 0x5C,
-            Command::HdotScr => 0x5A,
-            Command::GrayScale => 0x60,
-            Command::Csrw => 0x46,
-            Command::Csrr => 0x47,
-            Command::Mwrite => 0x42,
-            Command::Mread => 0x43,
-        }
+        command as u8
     }
 }
 

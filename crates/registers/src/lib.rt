@@ -32,23 +32,23 @@ impl Code {
     }
 }
 
-// A command of the command table.
+// A command of the command table, and its code, the first of a range.
 #[derive(Clone, Copy, PartialEq, Eq)]
 pub enum Command {
-    SystemSet,
-    SleepIn,
-    Disp,
-    Scroll,
-    CsrForm,
-    CsrDir,
-    Ovlay,
-    CgramAdr,
-    HdotScr,
-    GrayScale,
-    Csrw,
-    Csrr,
-    Mwrite,
-    Mread,
+    SystemSet = 0x40,
+    SleepIn = 0x53,
+    Disp = 0x58,
+    Scroll = 0x44,
+    CsrForm = 0x5D,
+    CsrDir = 0x4C,
+    Ovlay = 0x5B,
+    CgramAdr = 0x5C,
+    HdotScr = 0x5A,
+    GrayScale = 0x60,
+    Csrw = 0x46,
+    Csrr = 0x47,
+    Mwrite = 0x42,
+    Mread = 0x43,
 }
 
 // SYSTEM SET.

@@ -1,4 +1,4 @@
-// The number of a refusal.
+// The number of a refusal. A match, and not discriminants, which differ by themselves: that these do is proved (proofs/Numbers).
 ghost use Rattle.std.specs.Prelude.{◌≡◌};
 ghost use Rattle.registers.specs.Refusals.{number};
 

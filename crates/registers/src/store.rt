@@ -8,7 +8,7 @@ use crate::{
 };
 
 impl Direction {
-    // The direction of a byte from 4C to 4F; any other counts as the last.
+    // The direction of a byte from 4C to 4F; any other counts as the last, so that it is no conversion of a byte.
     #[tactic(auto, unfolding(crate::specs::Parameters::direction_of))]
     pub fn of(b: u8) -> Direction
         ensures { result ≡ direction_of b }

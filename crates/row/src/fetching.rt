@@ -39,8 +39,10 @@ impl Scene<'_> {
         ensures { let s = self.now in
             line.new ≡ table (length line.old) (λ c. glyph_byte s.registers s.memory.now s.font.now (slice_index line.old c) row) }
     {
+        // A copy, so that what each byte's glyph needs is read once, and not again behind each write.
+        let scene = *self;
         for byte in line.iter_mut() {
-            *byte = self.glyph_byte(*byte, row);
+            *byte = scene.glyph_byte(*byte, row);
         }
     }
 

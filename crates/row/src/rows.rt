@@ -37,7 +37,7 @@ impl Scene<'_> {
     // The dots of row n with the display on, by way of a line of its bytes: fetched, with the cursor, mixed, scrolled, and expanded. The row's own buffer
     // holds the bytes of layers 2 and 3 until its dots go there.
     #[tactic(auto, unfolding(crate::specs::Dots::width))]
-    fn paint(&self, n: u16, out: &mut [u8])
+    fn draw(&self, n: u16, out: &mut [u8])
         requires { length out.old ≡ width self.now.registers }
         ensures { let s = self.now in
             out.new ≡ table (width s.registers) (λ x. composed_dot s.registers s.memory.now s.font.now s.frame n (x + s.registers.hdot)) }
@@ -51,24 +51,12 @@ impl Scene<'_> {
         let shown = shown_columns(r.hdot, r.system.cr);
         expand_scrolled(r.grey, per, r.hdot as usize, shown, line, out);
     }
+}
 
-    fn is_shown(&self) -> bool
-        ensures { result ≡ is_shown self.now.registers.display.on self.now.registers.asleep }
-    {
-        self.registers.display.on && !self.registers.asleep
-    }
-
-    // The dots of row n: 0 with the display off, or asleep.
-    fn draw(&self, n: u16, out: &mut [u8])
-        requires { length out.old ≡ width self.now.registers }
-        ensures { let s = self.now in out.new ≡ dots s.registers s.memory.now s.font.now s.frame n }
-    {
-        if self.is_shown() {
-            self.paint(n, out);
-        } else {
-            clear(out);
-        }
-    }
+fn is_shown(r: &Registers) -> bool
+    ensures { result ≡ is_shown r.now.display.on r.now.asleep }
+{
+    r.display.on && !r.asleep
 }
 
 // How large a frame is, refused or not.
@@ -103,6 +91,11 @@ pub fn compose(
     };
     let registers = registers.in_layout();
     check_row(&registers, n, out.len())?;
+    // Before there is a scene, whose registers a dark row does not store.
+    if !is_shown(&registers) {
+        clear(out);
+        return Ok(());
+    }
     Scene {
         registers,
         memory,

@@ -22,7 +22,7 @@ pub fn line_address(start: u16, pitch: u16, q: u16) -> u16
 fn memory_bytes(memory: &[u8; MEMORY_SIZE], start: u16, line: &mut [u8])
     ensures { line.new ≡ table (length line.old) (λ c. fetch memory.now (start + c)) }
 {
-    let at = start as usize;
+    let at = usize::from(start);
     let end = at + line.len();
     if end <= memory.len() {
         line.copy_from_slice(&memory[at..end]);

@@ -47,9 +47,9 @@ impl Scene<'_> {
         let mut buffer = [0u8; 256];
         let line = &mut buffer[..count];
         self.mix_layers(n, line, &mut out[..count]);
-        let per = dots_per_column(r.grey, r.system.fx) as usize;
+        let per = dots_per_column(r.grey, r.system.fx);
         let shown = shown_columns(r.hdot, r.system.cr);
-        expand_scrolled(r.grey, per, r.hdot as usize, shown, line, out);
+        expand_scrolled(r.grey, per, usize::from(r.hdot), shown, line, out);
     }
 }
 

@@ -1,20 +1,32 @@
 // A row of dots.
-ghost use Rattle.std.specs.Prelude.{◌≡◌, ◌+◌, ◌≤◌, length};
+ghost use Rattle.std.specs.Prelude.{◌≡◌, ◌+◌, ◌≤◌, length, slice_index};
 ghost use Rattle.registers.specs.Counts.{⁅◌⁆};
 ghost use Rattle.dots.specs.Tables.{table};
-ghost use Rattle.row.specs.Dots.{width, composed_dot, is_shown, dots};
+ghost use Rattle.dots.specs.MixedBytes.{mix_byte};
+ghost use Rattle.row.specs.Dots.{layer_byte, width, composed_dot, is_shown, dots};
 ghost use Rattle.row.specs.Rows.{frame_size, row_outcome, composed_outcome};
 ghost use Rattle.row.specs.Stages.{ColumnDots};
 
-use crate::FrameSize;
 use crate::layers::{layer1, layer2, layer3};
 use crate::refusals::check_row;
 use crate::scene::Scene;
 use crate::width::{columns, dots_per_column, row_width, shown_columns};
+use crate::{BlockRow, FrameSize};
 use dots::{clear, expand_scrolled, mix_bytes, third_mix};
 use registers::{FONT_SIZE, MEMORY_SIZE, Refusal, Registers};
 
 impl Scene<'_> {
+    // The bytes of a layer mixed into those of the layers before it.
+    fn mix_layer(&self, layer: Option<BlockRow>, mx: u8, line: &mut [u8], scratch: &mut [u8])
+        requires { length scratch.old ≡ length line.old }
+        ensures { let s = self.now in
+            line.new ≡ table (length line.old)
+            (λ c. mix_byte mx s.registers.grey (slice_index line.old c) (layer_byte s.registers s.memory.now s.font.now s.frame layer c)) }
+    {
+        self.layer_bytes(layer, scratch);
+        mix_bytes(mx, self.registers.grey, line, scratch);
+    }
+
     // The bytes of row n, all layers mixed.
     fn mix_layers(&self, n: u16, line: &mut [u8], scratch: &mut [u8])
         requires line { (length line.old ≡ ⁅ self.now.registers.system.cr ⁆) × (length line.old ≤ 256) }
@@ -25,12 +37,10 @@ impl Scene<'_> {
         let layer = layer1(r, n);
         self.layer_bytes(layer, line);
         self.invert(layer, line);
-        self.layer_bytes(layer2(r, n), scratch);
-        mix_bytes(r.overlay.mx, r.grey, line, scratch);
+        self.mix_layer(layer2(r, n), r.overlay.mx, line, scratch);
         let third = layer3(r, n);
         if third.is_some() {
-            self.layer_bytes(third, scratch);
-            mix_bytes(third_mix(r.overlay.mx), r.grey, line, scratch);
+            self.mix_layer(third, third_mix(r.overlay.mx), line, scratch);
         }
     }
 

@@ -4,18 +4,19 @@ use mathlib.Core.Bool.{Bool, true, false}
 use mathlib.Core.List.{List}
 use mathlib.Core.Path.{◌≡◌, refl, sym, ◌∙◌}
 use native.Mathlib.Omega.{arith}
-use lib.ListN.{length, drop}
+use lib.ListN.{length, drop, length-drop}
+use Rattle.std.proofs.lemmas.List.{drop-drop}
 use borrow.Author.Tests.{ltb-false, le-ltb, ne_eqb}
 use Rattle.choice.specs.Choice.{when◌then◌else◌, ◌<?◌, ◌=?◌}
 use Rattle.busfile.specs.declared.Record as R
-use Rattle.busfile.specs.declared.Shape.{Shape}
-use Rattle.busfile.specs.declared.Shape.TheVariants.{Good, Wrong}
+use Rattle.std.specs.Prelude.{Option, Some, None}
+use Rattle.busfile.specs.declared.Kind.{Kind}
 use Rattle.busfile.specs.declared.Found.{Found}
 use Rattle.busfile.specs.declared.Found.TheVariants.{Record, Bad, End}
 use Rattle.busfile.specs.Records.{word_of, shape_of, body_of, record_at}
 
 -- the shape that a header says
-abbrev pub shape_at : List ℕ → ℕ → Shape
+abbrev pub shape_at : List ℕ → ℕ → Option Kind
 shape_at l at = shape_of (word_of (drop (at + 2) l)) (word_of (drop at l))
 
 -- what stands at a whole header
@@ -23,6 +24,13 @@ pub header : (l : List ℕ) (at : ℕ) → at + 4 ≤ length l → record_at l a
 unfolding record_at
 header l at h =
     rw (ne_eqb (length l - at) 0 (λ e. let z : length l - at ≡ 0 = e in omega arith), le-ltb (length l - at) 4 (omega arith))
+
+-- the same by the bytes that are left at the place
+pub at_left : (l left : List ℕ) (at : ℕ) → left ≡ drop at l → 4 ≤ length left
+    → record_at l at ≡ body_of (shape_of (word_of (drop 2 left)) (word_of left)) (length l) at (word_of left)
+at_left l left at e h =
+    let room : length left ≡ length l - at = rw (e, length-drop) refl in
+    rw (e, drop-drop 2 at l) (header l at (omega arith))
 
 -- an end is no record, and a bad one is none
 never : (end : Bool) (r : R.Record) → (when end then End else Bad) ≡ Record r → ⊥
@@ -40,10 +48,10 @@ has_header l at r e = go (length l - at =? 0) (length l - at <? 4) refl (body_of
     go false false t body e = omega (arith, ltb-false (length l - at) 4 t)
 
 -- its payload stands behind the header and ends within the list
-pub body_ends : (shape : Shape) (n at size : ℕ) (r : R.Record) → at + 4 ≤ n → body_of shape n at size ≡ Record r
+pub body_ends : (shape : Option Kind) (n at size : ℕ) (r : R.Record) → at + 4 ≤ n → body_of shape n at size ≡ Record r
     → (r.start ≡ at + 4) × (r.end ≡ at + 4 + size) × (r.end ≤ n)
-body_ends Wrong n at size r h e = absurd (never false r e)
-body_ends (Good kind) n at size r h e = go (n - (at + 4) <? size) refl e
+body_ends None n at size r h e = absurd (never false r e)
+body_ends (Some kind) n at size r h e = go (n - (at + 4) <? size) refl e
   where
     go : (cut : Bool) → (n - (at + 4) <? size) ≡ cut
         → (when cut then Bad else Record (record { kind = kind; start = at + 4; end = at + 4 + size })) ≡ Record r
@@ -60,7 +68,7 @@ body_short : (kind n at size : ℕ) (r : R.Record) → body_of (shape_of kind si
 unfolding shape_of
 body_short kind n at size r e = go (65532 <? size) refl _ e
   where
-    go : (over : Bool) → (65532 <? size) ≡ over → (shape : Shape) → body_of (when over then Wrong else shape) n at size ≡ Record r → size ≤ 65532
+    go : (over : Bool) → (65532 <? size) ≡ over → (shape : Option Kind) → body_of (when over then None else shape) n at size ≡ Record r → size ≤ 65532
     go true t shape e = absurd (never false r e)
     go false t shape e = ltb-false 65532 size t
 

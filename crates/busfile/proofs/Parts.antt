@@ -11,8 +11,8 @@ use lib.Seq.{drop-append-add, drop-append-le, take-append-le}
 use borrow.Author.Tests.{ltb-false, le-ltb}
 use Rattle.choice.specs.Choice.{when◌then◌else◌, ◌<?◌, ◌=?◌}
 use Rattle.busfile.specs.declared.Record as R
-use Rattle.busfile.specs.declared.Shape.{Shape}
-use Rattle.busfile.specs.declared.Shape.TheVariants.{Good, Wrong}
+use Rattle.std.specs.Prelude.{Option, Some, None}
+use Rattle.busfile.specs.declared.Kind.{Kind}
 use Rattle.busfile.specs.declared.Found.{Found}
 use Rattle.busfile.specs.declared.Found.TheVariants.{Record}
 use Rattle.busfile.specs.Records.{word_of, shape_of, body_of, record_at, part_of}
@@ -25,9 +25,9 @@ further_if : (k : ℕ) (test : Bool) (x y : Found) → further k (when test then
 further_if k true x y = refl
 further_if k false x y = refl
 
-body_shifted : (shape : Shape) (k n at size : ℕ) → further k (body_of shape n at size) ≡ body_of shape (k + n) (k + at) size
-body_shifted Wrong k n at size = refl
-body_shifted (Good kind) k n at size =
+body_shifted : (shape : Option Kind) (k n at size : ℕ) → further k (body_of shape n at size) ≡ body_of shape (k + n) (k + at) size
+body_shifted None k n at size = refl
+body_shifted (Some kind) k n at size =
     let left : k + n - (k + (at + 4)) ≡ n - (at + 4) = omega arith in
     further_if k (n - (at + 4) <? size) _ _ ∙ rw (add_assoc k at 4, add_assoc k (at + 4) size, left)
 
@@ -66,9 +66,9 @@ body_same : (n m at kind size : ℕ) → at + longest_record ≤ n → body_of (
 unfolding shape_of
 body_same n m at kind size h = go (65532 <? size) refl
   where
-    whole : (shape : Shape) → size ≤ 65532 → body_of shape n at size ≡ body_of shape (n + m) at size
-    whole Wrong small = refl
-    whole (Good k) small = rw (le-ltb (n - (at + 4)) size (omega arith), le-ltb (n + m - (at + 4)) size (omega arith))
+    whole : (shape : Option Kind) → size ≤ 65532 → body_of shape n at size ≡ body_of shape (n + m) at size
+    whole None small = refl
+    whole (Some k) small = rw (le-ltb (n - (at + 4)) size (omega arith), le-ltb (n + m - (at + 4)) size (omega arith))
 
     go : (over : Bool) → (65532 <? size) ≡ over → body_of (shape_of kind size) n at size ≡ body_of (shape_of kind size) (n + m) at size
     go true e = rw e

@@ -1,10 +1,8 @@
 -- Reference, 'Bus files'; 01, 'Bus file and its program': records.
-use Rattle.std.specs.Prelude.{ℕ, ◌+◌, ◌-◌, ◌*◌, List, ◌++◌, length, get_or, take, drop}
+use Rattle.std.specs.Prelude.{ℕ, ◌+◌, ◌-◌, ◌*◌, List, ◌++◌, Option, Some, None, length, get_or, take, drop}
 use Rattle.choice.specs.Choice.{when◌then◌else◌, ◌<?◌, ◌=?◌}
 use Rattle.busfile.specs.declared.Kind.{Kind}
 use Rattle.busfile.specs.declared.Kind.TheVariants.{Bus, Reads, Frame}
-use Rattle.busfile.specs.declared.Shape.{Shape}
-use Rattle.busfile.specs.declared.Shape.TheVariants.{Good, Wrong}
 use Rattle.busfile.specs.declared.Found.{Found}
 use Rattle.busfile.specs.declared.Found.TheVariants.{Record, Bad, End}
 
@@ -22,18 +20,18 @@ kind_number Reads = 2
 kind_number Frame = 3
 
 -- Bus: at least 1 byte. Reads: a 2-byte count. Frame: a 4-byte frame number. A length above 65,532 is wrong.
-unfoldable pub shape_of : ℕ → ℕ → Shape
+unfoldable pub shape_of : ℕ → ℕ → Option Kind
 shape_of kind size =
-    when 65532 <? size then Wrong
-    else when kind =? kind_number Bus then (when size =? 0 then Wrong else Good Bus)
-    else when kind =? kind_number Reads then (when size =? 2 then Good Reads else Wrong)
-    else when kind =? kind_number Frame then (when size =? 4 then Good Frame else Wrong)
-    else Wrong
+    when 65532 <? size then None
+    else when kind =? kind_number Bus then (when size =? 0 then None else Some Bus)
+    else when kind =? kind_number Reads then (when size =? 2 then Some Reads else None)
+    else when kind =? kind_number Frame then (when size =? 4 then Some Frame else None)
+    else None
 
 -- a record whose header stands at a place: cut, where it does not end within the file
-abbrev pub body_of : Shape → ℕ → ℕ → ℕ → Found
-body_of Wrong file at size = Bad
-body_of (Good kind) file at size =
+abbrev pub body_of : Option Kind → ℕ → ℕ → ℕ → Found
+body_of None file at size = Bad
+body_of (Some kind) file at size =
     when file - (at + 4) <? size then Bad
     else Record (record { kind = kind; start = at + 4; end = at + 4 + size })
 

@@ -4,11 +4,10 @@
 mod reading;
 mod records;
 
-pub use reading::{found_at, payload_at};
 pub use records::{compact, double_word, part, suffices, word};
 
 // Kind 1: a command byte, then its data writes. Kind 2: a count of reads. Kind 3: a frame to show.
-#[derive(Clone, Copy)]
+#[derive(Clone, Copy, PartialEq, Eq, Debug)]
 pub enum Kind {
     Bus,
     Reads,
@@ -16,26 +15,19 @@ pub enum Kind {
 }
 
 // A record's payload starts at start and ends at end, where the next record stands.
-#[derive(Clone, Copy)]
+#[derive(Clone, Copy, PartialEq, Eq, Debug)]
 pub struct Record {
     pub kind: Kind,
     pub start: usize,
     pub end: usize,
 }
 
-// What stands at a place of a bus file.
-#[derive(Clone, Copy)]
+// What stands at a place of a bus file. Three cases, which callers match at once: `Result<Option<Record>, BadRecord>` would nest them.
+#[derive(Clone, Copy, PartialEq, Eq, Debug)]
 pub enum Found {
     Record(Record),
     Bad,
     End,
-}
-
-// Whether a kind and a length go together.
-#[derive(Clone, Copy)]
-pub enum Shape {
-    Good(Kind),
-    Wrong,
 }
 
 // A bus file and a place in it: the reader shows each payload as the part of the lent bytes that it is.

@@ -1,9 +1,22 @@
-// Thin methods over a struct that holds the lent bytes: each leaves its work to a function on a plain slice.
+// A reader over lent bytes: what stands at its place, and the payload of what it found.
 ghost use Rattle.std.specs.Prelude.{◌≡◌};
-ghost use Rattle.busfile.specs.Records.{record_at, part_of};
+ghost use Rattle.busfile.specs.Records.{shape_of, record_at, part_of};
 
-use crate::records::{part, record_at};
-use crate::{Found, Reader};
+use crate::records::{part, rest, word};
+use crate::{Found, Kind, Reader, Record};
+
+// The kind with that number, where a payload of that length goes with it.
+#[tactic(auto, unfolding(crate::specs::Records::shape_of))]
+fn shape_of(kind: u16, size: u16) -> Option<Kind>
+    ensures { result ≡ shape_of kind size }
+{
+    match (kind, size) {
+        (1, 1..=65532) => Some(Kind::Bus),
+        (2, 2) => Some(Kind::Reads),
+        (3, 4) => Some(Kind::Frame),
+        _ => None,
+    }
+}
 
 impl<'a> Reader<'a> {
     pub fn new(bytes: &'a [u8], at: usize) -> Reader<'a>
@@ -14,29 +27,37 @@ impl<'a> Reader<'a> {
     }
 
     // What stands at the reader's place.
+    #[tactic(auto, unfolding(crate::specs::Records::record_at))]
     pub fn found(self) -> Found
         ensures { result ≡ record_at self.entry.bytes.now self.entry.at }
     {
-        record_at(self.bytes, self.at)
+        let left = rest(self.bytes, self.at);
+        if left.is_empty() {
+            return Found::End;
+        }
+        if left.len() < 4 {
+            return Found::Bad;
+        }
+        let size = word(left);
+        let Some(kind) = shape_of(word(rest(left, 2)), size) else {
+            return Found::Bad;
+        };
+        let length = usize::from(size);
+        if left.len() - 4 < length {
+            return Found::Bad;
+        }
+        let start = self.at + 4;
+        Found::Record(Record {
+            kind,
+            start,
+            end: start + length,
+        })
     }
 
-    // The part of the lent bytes from the reader's place to an end: no copy.
-    pub fn payload(self, end: usize) -> &'a [u8]
-        ensures { result.now ≡ part_of self.entry.bytes.now self.entry.at end }
+    // A record's payload, as the part of the lent bytes that it is: no copy.
+    pub fn payload(self, record: Record) -> &'a [u8]
+        ensures { result.now ≡ part_of self.entry.bytes.now «record».start «record».end }
     {
-        part(self.bytes, self.at, end)
+        part(self.bytes, record.start, record.end)
     }
-}
-
-// What a reader finds, and the payload that it shows, for callers that hold a slice and no reader.
-pub fn found_at(bytes: &[u8], at: usize) -> Found
-    ensures { result ≡ record_at bytes.now at }
-{
-    Reader::new(bytes, at).found()
-}
-
-pub fn payload_at(bytes: &[u8], start: usize, end: usize) -> &[u8]
-    ensures { result.now ≡ part_of bytes.now start end }
-{
-    Reader::new(bytes, start).payload(end)
 }

@@ -1,14 +1,13 @@
 -- Digits: their characters, and those of a decimal number.
-use Rattle.std.proofs.Common.{ℕ, zero, suc, ◌+◌, ◌/◌, ◌%◌, ◌<◌, ◌≤◌, List, [], ◌∷◌, ◌++◌, Bool, true, false, eqb, length, take, ◌≡◌, refl, ap, ◌∙◌, arith}
-use Rattle.std.proofs.Math.Nat.{not-suc-le-zero}
-use Rattle.std.proofs.Math.ListN.{set}
-use Rattle.std.proofs.Math.Numerals.{add-one}
+use Rattle.std.proofs.Common.{ℕ, ◌+◌, ◌%◌, ◌^◌, ◌<◌, ◌≤◌, List, [], ◌∷◌, ◌++◌, eqb, length, ◌≡◌, refl, arith, append_assoc}
 use Rattle.std.proofs.Math.Dec.{eqb→eq}
-use Rattle.std.proofs.lemmas.List.{length_push, take_more_set}
-use Rattle.std.proofs.lemmas.Bool.{lt-ltb, le-ltb, ltb-false}
+use Rattle.std.proofs.lemmas.Bool.{lt-ltb, le-ltb}
+use Rattle.std.proofs.lemmas.Fmt.{AppendsLastDigit, decimal_from_appends, length-decimal-le, length-decimal-le_succ}
+pub use Rattle.std.proofs.lemmas.Str.{encode_ascii}
+use Rattle.std.specs.Fmt.{decimal as printed_decimal}
 use Rattle.choice.specs.Choice.{when◌then◌else◌, ◌<?◌}
 use Rattle.choice.proofs.Below.{all_below_lem}
-use Rattle.lines.specs.Lines.{digit, hex_digit, decimal_below}
+use Rattle.lines.specs.Lines.{digit, decimal_below, decimal}
 
 abbrev code : ℕ → ℕ
 code d = when d <? 10 then 0x30 + d else 0x37 + d
@@ -18,37 +17,23 @@ pub digit_code : (d : ℕ) → d < 16 → digit d ≡ code d
 unfolding digit
 digit_code d h = eqb→eq (digit d) (code d) (all_below_lem (λ x. eqb (digit x) (code x)) 16 tt d h)
 
--- the digits are the same under any bound
-any_bound : (j k n : ℕ) → n < j → n < k → decimal_below j n ≡ decimal_below k n
+-- the digits are what the library prints
+by_last_digit : AppendsLastDigit decimal_below
 unfolding decimal_below
-any_bound zero k n h l = absurd (not-suc-le-zero h)
-any_bound (suc j) zero n h l = absurd (not-suc-le-zero l)
-any_bound (suc j) (suc k) n h l = go (n <? 10) refl (λ e. any_bound j k (n / 10) (omega (arith, ltb-false n 10 e)) (omega (arith, ltb-false n 10 e)))
-  where
-    go : (b : Bool) → (n <? 10) ≡ b
-        → ((n <? 10) ≡ false → decimal_below j (n / 10) ≡ decimal_below k (n / 10))
-        → (when b then [] else decimal_below j (n / 10)) ++ (digit (n % 10) ∷ []) ≡ (when b then [] else decimal_below k (n / 10)) ++ (digit (n % 10) ∷ [])
-    go true e f = refl
-    go false e f = ap (λ l. l ++ (digit (n % 10) ∷ [])) (f e)
+by_last_digit = record {
+  one = λ k n h. let low : n % 10 ≡ n = omega arith in rw (lt-ltb n 10 h, low, digit_code n (omega arith), lt-ltb n 10 h) refl;
+  more = λ k n h. rw (le-ltb n 10 h, digit_code (n % 10) (omega arith), lt-ltb (n % 10) 10 (omega arith)) refl;
+}
 
-pub one_digit : (n : ℕ) → n < 10 → decimal_below (n + 1) n ≡ digit (n % 10) ∷ []
-unfolding decimal_below
-one_digit n h = rw (add-one n, lt-ltb n 10 h) refl
+printed : (n : ℕ) → n < 2 ^ 64 → decimal_below (n + 1) n ≡ printed_decimal n
+printed n h = decimal_from_appends decimal_below by_last_digit (n + 1) n h (length-decimal-le_succ n h)
 
-pub more_digits : (n : ℕ) → 10 ≤ n → decimal_below (n + 1) n ≡ decimal_below (n / 10 + 1) (n / 10) ++ (digit (n % 10) ∷ [])
-unfolding decimal_below
-more_digits n h =
-    rw (any_bound (n / 10 + 1) n (n / 10) (omega arith) (omega arith), add-one n, le-ltb n 10 h) refl
+-- so is a number in a line, behind its blank
+pub number_text : (line : List ℕ) (n : ℕ) → n < 2 ^ 64 → (line ++ (32 ∷ [])) ++ printed_decimal n ≡ line ++ decimal n
+unfolding decimal
+number_text line n h = rw (append_assoc, printed n h) refl
 
-pub one_digit-length : (n : ℕ) → n < 10 → length (decimal_below (n + 1) n) ≡ 1
-one_digit-length n h = ap length (one_digit n h)
-
-pub more_digits-length : (n : ℕ) → 10 ≤ n → length (decimal_below (n + 1) n) ≡ length (decimal_below (n / 10 + 1) (n / 10)) + 1
-more_digits-length n h = ap length (more_digits n h) ∙ length_push _ _
-
--- the last digit behind those before it
-pub last_digit : (digits : List ℕ) (n last v : ℕ) → last < length digits → v ≡ hex_digit (n % 10)
-    → take last digits ++ (digit (n % 10) ∷ []) ≡ decimal_below (n + 1) n → take (last + 1) (set digits last v) ≡ decimal_below (n + 1) n
-last_digit digits n last v h e d =
-    let low : n % 10 % 16 ≡ n % 10 = omega arith in
-    take_more_set digits last v h ∙ rw (e, low) d
+-- a number of 64 bits has at most 20 digits
+pub number_length : (n : ℕ) → n < 2 ^ 64 → length (decimal n) ≤ 21
+unfolding decimal
+number_length n h = let l = length-decimal-le 20 n (omega arith) (omega (arith, h)) h in rw (printed n h) (omega arith)

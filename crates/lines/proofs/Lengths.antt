@@ -1,30 +1,9 @@
 -- How long lines are.
-use Rattle.std.proofs.Common.{ℕ, zero, suc, ◌+◌, ◌*◌, ◌/◌, ◌%◌, ◌^◌, ◌<◌, ◌≤◌, Bool, true, false, List, [], ◌∷◌, ◌++◌, length, ◌≡◌, refl, arith, length-append}
-use Rattle.std.proofs.Math.Nat.{pow-suc, div-lt_iff_lt-mul}
-use Rattle.std.proofs.lemmas.Bool.{ltb-false}
+use Rattle.std.proofs.Common.{ℕ, ◌+◌, ◌*◌, ◌^◌, ◌<◌, ◌≤◌, List, [], ◌∷◌, ◌++◌, length, ◌≡◌, arith, length-append}
 use Rattle.std.proofs.lemmas.List.{length-map}
-use Rattle.choice.specs.Choice.{when◌then◌else◌, ◌<?◌}
-use Rattle.lines.specs.Lines.{digit, decimal_below, decimal, row_line, longest_line}
+use Rattle.lines.specs.Lines.{decimal, row_line, longest_line}
+use Rattle.lines.proofs.Digits.{number_length}
 use Rattle.lines.specs.Pieces.{with_numbers}
-
-digits-length : (k n j : ℕ) → n < 10 ^ suc j → length (decimal_below k n) ≤ suc j
-unfolding decimal_below
-digits-length zero n j h = omega arith
-digits-length (suc k) n j h = go (n <? 10) refl j h (λ j l. digits-length k (n / 10) j l)
-  where
-    go : (b : Bool) → (n <? 10) ≡ b → (j : ℕ) → n < 10 ^ suc j → ((j : ℕ) → n / 10 < 10 ^ suc j → length (decimal_below k (n / 10)) ≤ suc j)
-        → length ((when b then [] else decimal_below k (n / 10)) ++ (digit (n % 10) ∷ [])) ≤ suc j
-    go true e j h f = omega arith
-    go false e zero h f = absurd (omega (arith, h, ltb-false n 10 e))
-    go false e (suc j) h f = rw length-append (omega (arith, f j ((div-lt_iff_lt-mul (omega arith)).1 (rw pow-suc at h))))
-
--- a number of 64 bits has at most 20 digits
-pub at_most_20 : (n : ℕ) → n < 2 ^ 64 → length (decimal_below (n + 1) n) ≤ 20
-at_most_20 n h = digits-length (n + 1) n 19 (omega (arith, h))
-
-decimal-length : (n : ℕ) → n < 2 ^ 64 → length (decimal n) ≤ 21
-unfolding decimal
-decimal-length n h = omega (arith, at_most_20 n h)
 
 -- numbers of 64 bits
 abbrev pub Small : List ℕ → Type 0
@@ -34,7 +13,7 @@ Small (n ∷ ns) = (n < 2 ^ 64) × Small ns
 numbers-length : (text ns : List ℕ) → Small ns → length (with_numbers text ns) ≤ length text + 21 * length ns
 numbers-length text [] h = omega arith
 numbers-length text (n ∷ ns) h =
-    omega (arith, numbers-length (text ++ decimal n) ns h.1, length-append text (decimal n), decimal-length n h.0)
+    omega (arith, numbers-length (text ++ decimal n) ns h.1, length-append text (decimal n), number_length n h.0)
 
 pub row-length : (dots : List ℕ) → length (row_line dots) ≡ length dots + 1
 unfolding row_line

@@ -26,13 +26,14 @@ stored buffer dots used k v fits h e =
     let l = row-length dots in rw e (paste_more buffer used (row_line dots) k 0 (omega arith) (omega arith))
 
 -- the line's end, and with it the whole line
-pub ended : (buffer dots : List ℕ) (used k : ℕ) → used + length dots < length buffer → k ≡ length dots
-    → set (paste buffer used (row_line dots) k) (used + k) 0xA ≡ appended buffer used (row_line dots)
-ended buffer dots used k fits e =
+pub ended : (buffer dots : List ℕ) (used k end : ℕ) → end < length buffer → end ≡ used + length dots → k ≡ length dots
+    → set (paste buffer used (row_line dots) k) end 0xA ≡ appended buffer used (row_line dots)
+ended buffer dots used k end fits at e =
     let l = row-length dots in
+    let room : used + length dots < length buffer = rw at at fits in
     let all = paste_all buffer used (row_line dots) (length dots + 1) (sym l) in
     let fit : used + length (row_line dots) ≤ length buffer = omega arith in
-    rw (e, stored buffer dots used (length dots) 0xA fits (omega arith) (sym (row_end dots)), all, le-leb _ _ fit, l) refl
+    rw (e, at, stored buffer dots used (length dots) 0xA room (omega arith) (sym (row_end dots)), all, le-leb _ _ fit, l) refl
 
 -- what a loop that writes a row needs
 pub ruleset row_steps = (row-length, row_dot, stored, ended)

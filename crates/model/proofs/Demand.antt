@@ -2,7 +2,7 @@
 use Rattle.std.proofs.Common.{ℕ, true, replicate, refl, lit<}
 use Rattle.std.proofs.lemmas.List.{length-replicate}
 use Rattle.registers.specs.declared.Command.{Command}
-use Rattle.registers.specs.declared.Command.TheVariants.{None, SystemSet, SleepIn, Disp, Scroll, CsrForm, CsrDir, Ovlay, CgramAdr, HdotScr, GrayScale, Csrw, Csrr, Mwrite, Mread}
+use Rattle.registers.specs.declared.Command.TheVariants.{SystemSet, SleepIn, Disp, Scroll, CsrForm, CsrDir, Ovlay, CgramAdr, HdotScr, GrayScale, Csrw, Csrr, Mwrite, Mread}
 use Rattle.registers.specs.Parameters.{allowed, system_allows, form_allows}
 use Rattle.registers.specs.Sizes.{memory_size}
 use Rattle.model.specs.Refresh.{Byte, AllValues, nine, Refresh}
@@ -14,7 +14,6 @@ use Rattle.model.proofs.Needed.{needed}
 -- 320 x 240 in 8 x 8 characters, four bits a dot
 values : (c : Command) → AllValues c
 unfolding allowed system_allows form_allows
-values None = tt
 values SystemSet = (0x10, lit< tt, tt, (7, lit< tt, tt, (7, lit< tt, tt, (0x27, lit< tt, tt, (0x2B, lit< tt, tt, (0xEF, lit< tt, tt, (0x28, lit< tt, tt, (0, lit< tt, tt, tt))))))))
 values SleepIn = tt
 values Disp = (0x14, lit< tt, tt, tt)

@@ -1,5 +1,6 @@
 -- The table of edges holds: one test that is computed over all of it.
-use Rattle.std.proofs.Common.{◌≡◌, ℕ, Bool, true, ◌&&◌, T, List, [], ◌∷◌, length, set, refl, ap, ◌∙◌, arith, eqb→eq, get_or-set_same, eq-eqb}
+use Rattle.std.proofs.Common.{◌≡◌, ℕ, Bool, true, ◌&&◌, T, Option, None, Some, List, [], ◌∷◌, length, set, refl, ap, ◌∙◌, arith, eqb→eq, get_or-set_same, eq-eqb}
+use Rattle.registers.specs.declared.Command.{Command}
 use Rattle.registers.specs.declared.Command.TheVariants.{Mwrite}
 use Rattle.choice.specs.Choice.{when◌then◌else◌, ◌<?◌, ◌=?◌}
 use Rattle.choice.proofs.Below.{both}
@@ -15,28 +16,36 @@ use Rattle.row.specs.Dots.{dots_per_column, shown_columns, width}
 use Rattle.row.specs.Refusals.{grey_mode, smooth_scroll, odd_lines, layer_order, cursor_shape, row_refusal}
 use Rattle.row.specs.Rows.{row_answer}
 use Rattle.model.specs.Machine.{Machine, Outcome, accept, refuse}
-use Rattle.model.specs.Bus.{ignored, display_off, command_write, served, accessed, data_write, data_read, write_parameter, write_memory}
+use Rattle.model.specs.Bus.{ignored, display_off, take_command, command_write, served, accessed, write_data, data_write, data_read, write_parameter, write_memory}
 use Rattle.model.specs.Calls.{BusCall, command, write, read, call, after, reset}
 use Rattle.model.specs.Refresh.{All}
 use Rattle.model.specs.Edges.{Edge, observed, edges, EdgesHold}
 use Rattle.model.proofs.Runs.{after_size}
 
 -- a call beside 32,768 bytes, which computes whatever they are
-abbrev sized_call : Machine → BusCall → Outcome
-sized_call m (command b) = command_write m b
-sized_call m (write b) =
+abbrev sized_write_of : Option Command → Machine → ℕ → Outcome
+sized_write_of None m b = refuse 3 m.controller m.memory
+sized_write_of (Some d) m b =
     let c = m.controller in
     let address = c.registers.cursor.address in
-    when served c is Mwrite
+    when d is Mwrite
     then when address <? memory_size then accept (accessed c) (set m.memory address b) else refuse 7 (accessed c) m.memory
-    else when c.pending.place <? parameters (served c) then write_parameter m b
+    else when c.pending.place <? parameters d then write_parameter d m b
     else refuse 3 c m.memory
+
+abbrev sized_call : Machine → BusCall → Outcome
+sized_call m (command b) = command_write m b
+sized_call m (write b) = sized_write_of (served m.controller) m b
 sized_call m read = data_read m
 
 call_sized : (m : Machine) → length m.memory ≡ memory_size → (c : BusCall) → call m c ≡ sized_call m c
-unfolding data_write write_memory
+unfolding data_write write_data write_memory
 call_sized m full (command b) = refl
-call_sized m full (write b) = rw (eq-eqb _ _ full, full)
+call_sized m full (write b) = rw (eq-eqb _ _ full) (go (served m.controller))
+  where
+    go : (o : Option Command) → write_data o m b ≡ sized_write_of o m b
+    go None = refl
+    go (Some c) = rw full
 call_sized m full read = refl
 
 abbrev sized_after : Machine → List BusCall → Machine
@@ -70,5 +79,5 @@ module _ (memory : List ℕ) (full : length memory ≡ memory_size) where
 
 -- it computes but for the memory: its length, and the byte that was stored in it
 pub edges_hold : EdgesHold
-unfolding command_of begin store store_system store_display store_blocks store_form store_overlay direction_of with_low with_high allowed system_allows form_allows next_address ignored display_off command_write served write_parameter in_layout field row_answer row_refusal grey_mode smooth_scroll odd_lines layer_order cursor_shape three_layers width shown_columns dots_per_column is_lit flashing is_on glyph_of
+unfolding command_of begin store store_system store_display store_blocks store_form store_overlay direction_of with_low with_high allowed system_allows form_allows next_address ignored display_off take_command command_write served write_parameter in_layout field row_answer row_refusal grey_mode smooth_scroll odd_lines layer_order cursor_shape three_layers width shown_columns dots_per_column is_lit flashing is_on glyph_of
 edges_hold memory full = all_hold memory full edges (simp (get_or-set_same memory 0x7FFF 0xA5 0 (omega arith), full) tt)

@@ -1,7 +1,7 @@
 -- Demand 3, second part: each of the eleven commands is needed.
-use Rattle.std.proofs.Common.{◌≡◌, ℕ, zero, suc, ◌+◌, ◌<◌, ◌≤◌, Bool, true, false, T, List, [], ◌∷◌, ◌++◌, length, get_or, set, sym, refl, ap, ◌∙◌, subst, inl, add-zero, arith, length-set, get_or-set_same, eq-eqb}
+use Rattle.std.proofs.Common.{◌≡◌, ℕ, zero, suc, ◌+◌, ◌<◌, ◌≤◌, Bool, true, false, T, Some, List, [], ◌∷◌, ◌++◌, length, get_or, set, sym, refl, ap, ◌∙◌, subst, inl, add-zero, arith, length-set, get_or-set_same, eq-eqb}
 use Rattle.registers.specs.declared.Command.{Command}
-use Rattle.registers.specs.declared.Command.TheVariants.{None, SystemSet, SleepIn, Disp, Scroll, CsrForm, CsrDir, Ovlay, CgramAdr, HdotScr, GrayScale, Csrw, Csrr, Mwrite, Mread}
+use Rattle.registers.specs.declared.Command.TheVariants.{SystemSet, SleepIn, Disp, Scroll, CsrForm, CsrDir, Ovlay, CgramAdr, HdotScr, GrayScale, Csrw, Csrr, Mwrite, Mread}
 use Rattle.registers.specs.declared.Direction.{Direction}
 use Rattle.registers.specs.declared.Direction.TheVariants.{Right, Left, Up, Down}
 use Rattle.registers.specs.declared.Registers.{Registers}
@@ -14,7 +14,7 @@ use Rattle.registers.proofs.Codes.{is_same}
 use Rattle.model.specs.declared.Pending.{Pending}
 use Rattle.model.specs.declared.Controller.{Controller}
 use Rattle.model.specs.Machine.{Machine, Outcome, machine, controller}
-use Rattle.model.specs.Bus.{ignored, display_off, command_write, served, data_write, write_parameter}
+use Rattle.model.specs.Bus.{ignored, display_off, take_command, command_write, served, write_data, data_write, write_parameter}
 use Rattle.model.specs.Calls.{BusCall, command, write, after, reset}
 use Rattle.model.specs.Refresh.{All, Byte, occurrences, nine, eleven, Refresh, send, sends, without}
 use Rattle.model.specs.Demand.{OnBus, Accepted, Only7, Prior, reached, rest, Differ, EachNeeded}
@@ -33,7 +33,6 @@ direction_number Up = 2
 direction_number Down = 3
 
 abbrev observe : Command → Registers → ℕ
-observe None x = 0
 observe SystemSet x = when x.system.iv then 1 else 0
 observe SleepIn x = 0
 observe Disp x = when x.display.on then 1 else 0
@@ -76,17 +75,17 @@ module _ (memory : List ℕ) (full : length memory ≡ memory_size) where
   told c s b e u o f = record { bytes = b; left = s; leads = e; unset = u; one = o; fit = f }
 
   abbrev stored : Command → Controller
-  stored c = controller (store c 0 (probe_byte c) (begin c (probe_code c) reset_registers)) c 1
+  stored c = controller (store c 0 (probe_byte c) (begin c (probe_code c) reset_registers)) (Some c) 1
 
   probed : (c : Command) → Ten c → Probed memory c
-  unfolding command_write command_of ignored display_off served data_write write_parameter begin store store_system store_display store_blocks store_form store_overlay direction_of with_low allowed system_allows form_allows
+  unfolding command_write take_command command_of ignored display_off served data_write write_data write_parameter begin store store_system store_display store_blocks store_form store_overlay direction_of with_low allowed system_allows form_allows
   probed =
       of_ten (Probed memory)
       (record {
         system_set = told SystemSet (stored SystemSet) (omega arith) (rw (eq-eqb _ _ full, after)) refl refl (refl, (λ e. refl), omega arith);
         scroll = told Scroll (stored Scroll) (omega arith) (rw (eq-eqb _ _ full, after)) refl refl (refl, (λ e. refl), omega arith);
         csr_form = told CsrForm (stored CsrForm) (omega arith) (rw (eq-eqb _ _ full, after)) refl refl (refl, (λ e. refl), omega arith);
-        csr_dir = told CsrDir (controller (begin CsrDir 0x4D reset_registers) CsrDir 0) (omega arith) (rw (eq-eqb _ _ full, after)) refl refl (refl, absurd, omega arith);
+        csr_dir = told CsrDir (controller (begin CsrDir 0x4D reset_registers) (Some CsrDir) 0) (omega arith) (rw (eq-eqb _ _ full, after)) refl refl (refl, absurd, omega arith);
         ovlay = told Ovlay (stored Ovlay) (omega arith) (rw (eq-eqb _ _ full, after)) refl refl (refl, (λ e. refl), omega arith);
         cgram_adr = told CgramAdr (stored CgramAdr) (omega arith) (rw (eq-eqb _ _ full, after)) refl refl (refl, (λ e. refl), omega arith);
         hdot_scr = told HdotScr (stored HdotScr) (omega arith) (rw (eq-eqb _ _ full, after)) refl refl (refl, (λ e. refl), omega arith);

@@ -1,8 +1,10 @@
 -- Runs: a list of calls that leads from one machine to another, every answer having a property. The memory keeps its size.
-use Rattle.std.proofs.Common.{◌≡◌, ℕ, zero, suc, List, [], ◌∷◌, ◌++◌, length, get_or, replicate, sym, refl, ◌∙◌, subst, arith, length-set}
+use Rattle.std.proofs.Common.{◌≡◌, ℕ, zero, suc, not, Option, None, Some, List, [], ◌∷◌, ◌++◌, length, get_or, replicate, sym, refl, ◌∙◌, subst, arith, length-set}
 use Rattle.choice.proofs.Cases.{choose}
-use Rattle.model.specs.Machine.{Machine, Outcome}
-use Rattle.model.specs.Bus.{command_write, write_memory, write_parameter, data_write, read_memory, read_cursor, data_read}
+use Rattle.registers.specs.declared.Command.{Command}
+use Rattle.registers.specs.Commands.{command_of}
+use Rattle.model.specs.Machine.{Machine, Outcome, refuse}
+use Rattle.model.specs.Bus.{sized, served, take_command, command_write, write_memory, write_parameter, write_data, data_write, read_memory, read_cursor, read_data, data_read}
 use Rattle.model.specs.Calls.{BusCall, command, write, read, call, after, outcomes}
 use Rattle.model.specs.Refresh.{All, Byte}
 
@@ -45,15 +47,36 @@ byte_at_lem [] h i = omega arith
 byte_at_lem (b ∷ bs) h zero = h.0
 byte_at_lem (b ∷ bs) h (suc i) = byte_at_lem bs h.1 i
 
+-- what a data write and a data read come to: refused, or what is served
+pub sized_write : (P : Outcome → Type 0) (m : Machine) (b : ℕ) → P (refuse 1 m.controller m.memory) → ((o : Option Command) → P (write_data o m b)) → P (data_write m b)
+unfolding data_write
+sized_write P m b r f = choose P (not (sized m)) _ _ (λ e. r) (λ e. f (served m.controller))
+
+pub sized_read : (P : Outcome → Type 0) (m : Machine) → P (refuse 1 m.controller m.memory) → ((o : Option Command) → P (read_data o m)) → P (data_read m)
+unfolding data_read
+sized_read P m r f = choose P (not (sized m)) _ _ (λ e. r) (λ e. f (served m.controller))
+
 abbrev SameSize : Machine → Outcome → Type 0
 SameSize m o = length o.machine.memory ≡ length m.memory
 
 -- no call changes the size of the memory
 call_size : (m : Machine) (c : BusCall) → length (call m c).machine.memory ≡ length m.memory
-unfolding command_write data_write write_memory write_parameter data_read read_memory read_cursor
-call_size m (command b) = search (choose (SameSize m)) depth 12
-call_size m (write b) = search (choose (SameSize m), length-set) depth 12
-call_size m read = search (choose (SameSize m)) depth 12
+unfolding command_write take_command write_data write_memory write_parameter read_data read_memory read_cursor
+call_size m (command b) = go (command_of b)
+  where
+    go : (o : Option Command) → SameSize m (take_command o m b)
+    go None = refl
+    go (Some c) = search (choose (SameSize m)) depth 12
+call_size m (write b) = sized_write (SameSize m) m b refl go
+  where
+    go : (o : Option Command) → SameSize m (write_data o m b)
+    go None = refl
+    go (Some c) = search (choose (SameSize m), length-set) depth 12
+call_size m read = sized_read (SameSize m) m refl go
+  where
+    go : (o : Option Command) → SameSize m (read_data o m)
+    go None = refl
+    go (Some c) = search (choose (SameSize m)) depth 12
 
 pub after_size : (m : Machine) (cs : List BusCall) → length (after m cs).memory ≡ length m.memory
 after_size m [] = refl

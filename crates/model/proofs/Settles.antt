@@ -1,7 +1,7 @@
 -- Demand 3, first part: whatever came before, a full refresh leads to one and the same machine.
-use Rattle.std.proofs.Common.{◌≡◌, ℕ, ◌<◌, Bool, true, false, ◌||◌, List, [], ◌∷◌, ◌++◌, length, get_or, sym, refl, ap, ◌∙◌, subst, append_assoc, arith}
+use Rattle.std.proofs.Common.{◌≡◌, ℕ, ◌<◌, Bool, true, false, Some, ◌||◌, List, [], ◌∷◌, ◌++◌, length, get_or, sym, refl, ap, ◌∙◌, subst, append_assoc, arith}
 use Rattle.registers.specs.declared.Command.{Command}
-use Rattle.registers.specs.declared.Command.TheVariants.{None, SystemSet, SleepIn, Disp, Scroll, CsrForm, CsrDir, Ovlay, CgramAdr, HdotScr, GrayScale, Csrw, Mwrite}
+use Rattle.registers.specs.declared.Command.TheVariants.{SystemSet, SleepIn, Disp, Scroll, CsrForm, CsrDir, Ovlay, CgramAdr, HdotScr, GrayScale, Csrw, Mwrite}
 use Rattle.registers.specs.declared.Direction.TheVariants.{Right}
 use Rattle.registers.specs.declared.Registers.{Registers}
 use Rattle.choice.specs.Choice.{when◌then◌else◌}
@@ -24,15 +24,14 @@ use Rattle.model.proofs.Seen.{none, also, adds, adds_counted, all_counted}
 module _ (r : Refresh) where
   -- a command that is known, and neither SLEEP IN nor MWRITE
   record Plain (c : Command) : Type 0 where
-    known : command_of (opcode r c) ≡ c
-    some : (c is None) ≡ false
+    known : command_of (opcode r c) ≡ Some c
     no_sleep : (c is SleepIn) ≡ false
     no_memory : (c is Mwrite) ≡ false
 
-  plain_of : (c : Command) → command_of (opcode r c) ≡ c → (c is None) ≡ false → (c is SleepIn) ≡ false → (c is Mwrite) ≡ false → Plain c
-  plain_of c k s n m = record { known = k; some = s; no_sleep = n; no_memory = m }
+  plain_of : (c : Command) → command_of (opcode r c) ≡ Some c → (c is SleepIn) ≡ false → (c is Mwrite) ≡ false → Plain c
+  plain_of c k n m = record { known = k; no_sleep = n; no_memory = m }
 
-  opcode_on : (on : Bool) → command_of (when on then 0x59 else 0x58) ≡ Disp
+  opcode_on : (on : Bool) → command_of (when on then 0x59 else 0x58) ≡ Some Disp
   unfolding command_of
   opcode_on true = refl
   opcode_on false = refl
@@ -42,16 +41,16 @@ module _ (r : Refresh) where
   plain =
       of_ten Plain
       (record {
-        system_set = plain_of SystemSet refl refl refl refl;
-        scroll = plain_of Scroll refl refl refl refl;
-        csr_form = plain_of CsrForm refl refl refl refl;
-        csr_dir = plain_of CsrDir refl refl refl refl;
-        ovlay = plain_of Ovlay refl refl refl refl;
-        cgram_adr = plain_of CgramAdr refl refl refl refl;
-        hdot_scr = plain_of HdotScr refl refl refl refl;
-        grey_scale = plain_of GrayScale refl refl refl refl;
-        disp = plain_of Disp (opcode_on r.on) refl refl refl;
-        csrw = plain_of Csrw refl refl refl refl;
+        system_set = plain_of SystemSet refl refl refl;
+        scroll = plain_of Scroll refl refl refl;
+        csr_form = plain_of CsrForm refl refl refl;
+        csr_dir = plain_of CsrDir refl refl refl;
+        ovlay = plain_of Ovlay refl refl refl;
+        cgram_adr = plain_of CgramAdr refl refl refl;
+        hdot_scr = plain_of HdotScr refl refl refl;
+        grey_scale = plain_of GrayScale refl refl refl;
+        disp = plain_of Disp (opcode_on r.on) refl refl;
+        csrw = plain_of Csrw refl refl refl;
       })
 
   -- the registers after a command with all its parameters
@@ -59,12 +58,12 @@ module _ (r : Refresh) where
   put c x = stores c 0 (parameters c) (r.values c) (begin c (opcode r c) x)
 
   command_run : (c : Command) → Ten c → (s : Controller) (memory : List ℕ) → length memory ≡ memory_size → Takes c s.registers
-      → Runs Accepted (machine s memory) (send r c) (machine (controller (put c s.registers) c (parameters c)) memory)
+      → Runs Accepted (machine s memory) (send r c) (machine (controller (put c s.registers) (Some c) (parameters c)) memory)
   unfolding begin
   command_run c h s memory full t =
       let p = plain c h in
       rw p.no_memory
-      (runs_cons (begun c (opcode r c) p.known p.some p.no_sleep s memory t) refl
+      (runs_cons (begun c (opcode r c) p.known p.no_sleep s memory t) refl
       (parameters_run c p.no_memory 0 (parameters c) (omega arith) (r.values c) (begin c (opcode r c) s.registers) memory full (rw p.no_sleep t)))
 
   -- what the ten set, each its own fields
@@ -142,8 +141,8 @@ module _ (r : Refresh) where
   settling_run [] h seen x pending memory full a = (pending, runs_none, a)
   settling_run (c ∷ cs) h seen x pending memory full a =
       let now = command_run c h.0 (record { registers = settling seen x; pending = pending }) memory full (takes_awake c (settling seen x) a) in
-      let later = settling_run cs h.1 (also c seen) x (record { command = c; place = parameters c }) memory full (awake_also c seen x a) in
-      (later.0, runs_append (send r c) (runs_to (ap (λ (y : Registers). machine (controller y c (parameters c)) memory) (put_settling c h.0 seen x a)) now) later.1, later.2)
+      let later = settling_run cs h.1 (also c seen) x (record { command = Some c; place = parameters c }) memory full (awake_also c seen x a) in
+      (later.0, runs_append (send r c) (runs_to (ap (λ (y : Registers). machine (controller y (Some c) (parameters c)) memory) (put_settling c h.0 seen x a)) now) later.1, later.2)
 
   -- SYSTEM SET, awake or not, settles its own fields and leaves the chip awake
   put_first : (x : Registers) → put SystemSet x ≡ settling (also SystemSet none) (put SystemSet x)
@@ -162,8 +161,8 @@ module _ (r : Refresh) where
   first_run cs h s memory full =
       let x = put SystemSet s.registers in
       let now = command_run SystemSet (omega arith) s memory full refl in
-      let later = settling_run cs h (also SystemSet none) x (record { command = SystemSet; place = parameters SystemSet }) memory full refl in
-      (x, later.0, runs_append (send r SystemSet) (runs_to (ap (λ (y : Registers). machine (controller y SystemSet (parameters SystemSet)) memory) (put_first s.registers)) now) later.1)
+      let later = settling_run cs h (also SystemSet none) x (record { command = Some SystemSet; place = parameters SystemSet }) memory full refl in
+      (x, later.0, runs_append (send r SystemSet) (runs_to (ap (λ (y : Registers). machine (controller y (Some SystemSet) (parameters SystemSet)) memory) (put_first s.registers)) now) later.1)
 
   pub order_ten : All Ten r.order
   order_ten = all_counted Ten r.order (λ c h. go c (c is SystemSet) refl (subst (λ (n : ℕ). 0 < n) (r.once c) h))
@@ -177,9 +176,9 @@ module _ (r : Refresh) where
       rw (h SystemSet (omega arith), h Disp (omega arith), h Scroll (omega arith), h CsrForm (omega arith), h Ovlay (omega arith), h CgramAdr (omega arith), h HdotScr (omega arith), h GrayScale (omega arith), h Csrw (omega arith), h CsrDir (omega arith))
 
   pub write_begun : (x : Registers) (pending : Pending) (memory : List ℕ) → x.asleep ≡ false
-      → call (machine (record { registers = x; pending = pending }) memory) (command 0x42) ≡ accept (controller x Mwrite 0) memory
+      → call (machine (record { registers = x; pending = pending }) memory) (command 0x42) ≡ accept (controller x (Some Mwrite) 0) memory
   unfolding command_of begin
-  write_begun x pending memory a = begun Mwrite 0x42 refl refl refl (record { registers = x; pending = pending }) memory (takes_awake Mwrite x a)
+  write_begun x pending memory a = begun Mwrite 0x42 refl refl (record { registers = x; pending = pending }) memory (takes_awake Mwrite x a)
 
   sends-append : (cs ds : List Command) → sends r (cs ++ ds) ≡ sends r cs ++ sends r ds
   sends-append [] ds = refl

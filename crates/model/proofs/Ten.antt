@@ -1,7 +1,7 @@
 -- The ten commands of a refresh before MWRITE, one by one.
 use Rattle.std.proofs.Common.{◌<◌, ◌∷◌, arith}
 use Rattle.registers.specs.declared.Command.{Command}
-use Rattle.registers.specs.declared.Command.TheVariants.{None, SystemSet, SleepIn, Disp, Scroll, CsrForm, CsrDir, Ovlay, CgramAdr, HdotScr, GrayScale, Csrw, Csrr, Mwrite, Mread}
+use Rattle.registers.specs.declared.Command.TheVariants.{SystemSet, SleepIn, Disp, Scroll, CsrForm, CsrDir, Ovlay, CgramAdr, HdotScr, GrayScale, Csrw, Csrr, Mwrite, Mread}
 use Rattle.model.specs.Refresh.{occurrences, nine}
 
 abbrev pub Ten : Command → Type 0
@@ -31,7 +31,6 @@ of_ten P e HdotScr h = e.hdot_scr
 of_ten P e GrayScale h = e.grey_scale
 of_ten P e Disp h = e.disp
 of_ten P e Csrw h = e.csrw
-of_ten P e None h = absurd (omega arith)
 of_ten P e SleepIn h = absurd (omega arith)
 of_ten P e Csrr h = absurd (omega arith)
 of_ten P e Mwrite h = absurd (omega arith)

@@ -1,26 +1,32 @@
 -- Runs of data writes: all accepted, and as long as can be; and a run as bytes stored a stride apart.
-use Rattle.std.proofs.Common.{◌≡◌, ℕ, suc, ◌+◌, ◌%◌, ◌<◌, ◌≤◌, Bool, true, false, not, ◌&&◌, T, List, [], ◌∷◌, map, length, take, set, sym, refl, ◌∙◌, subst, suc-le-suc, zero-le, le_of_suc-le-suc, add-zero, zero-add, arith, length-set, eq-eqb}
+use Rattle.std.proofs.Common.{◌≡◌, ℕ, suc, ◌+◌, ◌%◌, ◌<◌, ◌≤◌, Bool, true, false, not, ◌&&◌, T, Option, None, Some, List, [], ◌∷◌, map, length, take, set, sym, refl, ◌∙◌, subst, suc-le-suc, zero-le, le_of_suc-le-suc, add-zero, zero-add, arith, length-set, eq-eqb}
 use Rattle.choice.specs.Choice.{when◌then◌else◌, ◌<?◌}
 use Rattle.choice.proofs.Cases.{choose, both_true}
+use Rattle.registers.specs.declared.Command.{Command}
 use Rattle.registers.specs.declared.Command.TheVariants.{Mwrite}
-use Rattle.registers.specs.Commands.{◌is◌}
 use Rattle.registers.specs.Refusals.{accepted, refused}
 use Rattle.registers.specs.Sizes.{memory_size}
 use Rattle.model.specs.declared.Controller.{Controller}
 use Rattle.model.specs.Machine.{Machine, machine, accept, refuse, controller}
-use Rattle.model.specs.Bus.{sized, served, accessed, inside, data_write, write_memory}
+use Rattle.model.specs.Bus.{sized, served, ◌serves◌, accessed, inside, write_data, data_write, write_memory}
 use Rattle.model.specs.Calls.{write, after, outcomes}
 use Rattle.model.specs.Refresh.{All}
 use Rattle.model.specs.WriteRun.{stores, run_length, RunOutcome, run_outcome}
 use Rattle.model.specs.Strides.{StoredOutcome, stored_from}
 use Rattle.model.proofs.Steps.{at, next}
 
+-- what MWRITE serves goes into memory
+serves_writes : (o : Option Command) (m : Machine) (b : ℕ) → o serves Mwrite ≡ true → write_data o m b ≡ write_memory m b
+unfolding write_data
+serves_writes None m b h = absurd (subst T (sym h) tt)
+serves_writes (Some c) m b h = rw h
+
 stored : (m : Machine) (b : ℕ) → stores m ≡ true → data_write m b ≡ accept (accessed m.controller) (set m.memory m.controller.registers.cursor.address b)
 unfolding stores data_write write_memory
 stored m b h =
-    let t = both_true (sized m && served m.controller is Mwrite) (inside m) h in
-    let u = both_true (sized m) (served m.controller is Mwrite) t.0 in
-    rw (u.0, u.1, t.1)
+    let t = both_true (sized m && served m.controller serves Mwrite) (inside m) h in
+    let u = both_true (sized m) (served m.controller serves Mwrite) t.0 in
+    rw (u.0, serves_writes (served m.controller) m b u.1, t.1)
 
 stores_accepted : (m : Machine) (b : ℕ) → stores m ≡ true → (data_write m b).reply ≡ accepted
 stores_accepted m b h = rw (stored m b h)
@@ -36,9 +42,9 @@ run_accepted m (b ∷ bs) =
     (λ h. (stores_accepted m b h, run_accepted (data_write m b).machine bs)) (λ h. tt)
 
 -- a data write that MWRITE serves and that does not store is refused
-pub not_stored : (m : Machine) (b : ℕ) → stores m ≡ false → (served m.controller is Mwrite) ≡ true → (data_write m b).reply ≡ refused (when sized m then 7 else 1)
+pub not_stored : (m : Machine) (b : ℕ) → stores m ≡ false → (served m.controller serves Mwrite) ≡ true → (data_write m b).reply ≡ refused (when sized m then 7 else 1)
 unfolding stores data_write write_memory
-not_stored m b h w = rw w (go (sized m) (inside m) (rw w at h))
+not_stored m b h w = rw (serves_writes (served m.controller) m b w) (go (sized m) (inside m) (rw w at h))
   where
     go : (s i : Bool) → (s && true && i) ≡ false
         → (when not s then refuse 1 m.controller m.memory
@@ -56,7 +62,7 @@ run_ends m (b ∷ bs) =
     (λ h shorter. run_ends (data_write m b).machine bs (le_of_suc-le-suc shorter)) (λ h shorter. h)
 
 -- MWRITE pending, and a cursor that each access moves by the stride
-module _ (c : Controller) (stride : ℕ) (pending : (served c is Mwrite) ≡ true) (moves : (address : ℕ) → next c.registers address ≡ (address + stride) % 65536) where
+module _ (c : Controller) (stride : ℕ) (pending : (served c serves Mwrite) ≡ true) (moves : (address : ℕ) → next c.registers address ≡ (address + stride) % 65536) where
   -- the cursor at an address
   abbrev from : ℕ → List ℕ → Machine
   from address memory = machine (controller (at c.registers address) c.pending.command c.pending.place) memory

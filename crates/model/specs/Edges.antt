@@ -5,6 +5,8 @@ use Rattle.std.specs.Prelude.{◌≡◌, ℕ, ◌%◌, List, [], ◌∷◌, ◌+
 use Rattle.choice.specs.Choice.{when◌then◌else◌}
 use Rattle.registers.specs.Sizes.{memory_size, font_size}
 use Rattle.registers.specs.Layout.{in_layout}
+use Rattle.row.specs.declared.Block.{Block}
+use Rattle.row.specs.declared.Block.TheVariants.{One}
 use Rattle.row.specs.declared.Glyph.{Glyph}
 use Rattle.row.specs.declared.Glyph.TheVariants.{Empty, Font, CgRam}
 use Rattle.row.specs.Glyphs.{glyph_of, font_index, cg_ram_address}
@@ -24,7 +26,7 @@ pub data Observation : Type 0 where
   -- the refusal of row 0 with a buffer of a length and a font of 1,280 bytes, 0 where it is composed
   row0 : ℕ → Observation
   -- 1 where a block shows in a frame, else 0
-  lit : ℕ → ℕ → Observation
+  lit : Block → ℕ → Observation
   -- of glyph row 0 of a code: the index of its font byte, and its CG RAM address
   font_index_of : ℕ → Observation
   cg_ram_address_of : ℕ → Observation
@@ -107,12 +109,12 @@ edges =
     ∷ edge (columns 0x27 0x2B) (write 0) (row0 320) 0
     ∷ edge (columns 0x27 0x2A) (write 0) (row0 320) 13
     -- period 32: frame 22 on, 23 off, 32 on
-    ∷ edge (sending 0x59 []) (write 0x08) (lit 1 22) 1
-    ∷ edge (sending 0x59 []) (write 0x08) (lit 1 23) 0
-    ∷ edge (sending 0x59 []) (write 0x08) (lit 1 32) 1
+    ∷ edge (sending 0x59 []) (write 0x08) (lit One 22) 1
+    ∷ edge (sending 0x59 []) (write 0x08) (lit One 23) 0
+    ∷ edge (sending 0x59 []) (write 0x08) (lit One 32) 1
     -- period 4: 2 on, 3 off
-    ∷ edge (sending 0x59 []) (write 0x0C) (lit 1 2) 1
-    ∷ edge (sending 0x59 []) (write 0x0C) (lit 1 3) 0
+    ∷ edge (sending 0x59 []) (write 0x0C) (lit One 2) 1
+    ∷ edge (sending 0x59 []) (write 0x0C) (lit One 3) 0
     -- code 41h, glyph row 0: font byte 264
     ∷ edge [] (command 0x40) (font_index_of 0x41) 264
     -- code E0h, CGRAM ADR F900h, M2 = 0: address 0000h

@@ -1,14 +1,12 @@
 -- Reference, 'Reset'; 01, 'What the model is' and 'Reset, commands and parameters': a controller beside its memory, and what a
 -- call gives.
-use Rattle.std.specs.Prelude.{ℕ, List}
+use Rattle.std.specs.Prelude.{ℕ, List, Option, None, Result}
 use Rattle.registers.specs.declared.Command.{Command}
-use Rattle.registers.specs.declared.Command.TheVariants.{None}
+use Rattle.registers.specs.declared.Refusal.{Refusal}
 use Rattle.registers.specs.declared.Registers.{Registers}
 use Rattle.registers.specs.Parameters.{reset_registers}
 use Rattle.registers.specs.Refusals.{Reply, accepted, valued, refused, reply, read_reply}
 use Rattle.model.specs.declared.Controller.{Controller}
-use Rattle.model.specs.declared.Written.{Written}
-use Rattle.model.specs.declared.Read.{Read}
 
 pub record Machine : Type 0 where
   pub controller : Controller
@@ -31,14 +29,14 @@ give v c memory = record { machine = machine c memory; reply = valued v }
 abbrev pub refuse : ℕ → Controller → List ℕ → Outcome
 refuse n c memory = record { machine = machine c memory; reply = refused n }
 
--- the outcome that the code's answer stands for, with the memory as it leaves it
-abbrev pub written_outcome : Written → List ℕ → Outcome
-written_outcome w memory = record { machine = machine w.controller memory; reply = reply w.answer }
+-- the outcome that the code's answer stands for, with the controller and the memory as it leaves them
+abbrev pub written_outcome : Controller → Result Unit Refusal → List ℕ → Outcome
+written_outcome c answer memory = record { machine = machine c memory; reply = reply answer }
 
-abbrev pub read_outcome : Read → List ℕ → Outcome
-read_outcome r memory = record { machine = machine r.controller memory; reply = read_reply r.answer }
+abbrev pub read_outcome : Controller → Result ℕ Refusal → List ℕ → Outcome
+read_outcome c answer memory = record { machine = machine c memory; reply = read_reply answer }
 
-abbrev pub controller : Registers → Command → ℕ → Controller
+abbrev pub controller : Registers → Option Command → ℕ → Controller
 controller registers command place =
     record { registers = registers; pending = record { command = command; place = place } }
 
@@ -46,8 +44,8 @@ controller registers command place =
 abbrev pub reset_controller : Controller
 reset_controller = controller reset_registers None 0
 
--- another command pending, at the start of its list
-abbrev pub with_pending : Command → Controller → Controller
+-- another command pending, or none, at the start of its list
+abbrev pub with_pending : Option Command → Controller → Controller
 with_pending command c = controller c.registers command 0
 
 -- the pending command ends

@@ -3,15 +3,14 @@
 use Rattle.std.specs.Prelude.{ℕ, suc, Bool, ◌&&◌, List, [], ◌∷◌, map, take}
 use Rattle.choice.specs.Choice.{when◌then◌else◌}
 use Rattle.registers.specs.declared.Command.TheVariants.{Mwrite}
-use Rattle.registers.specs.Commands.{◌is◌}
-use Rattle.model.specs.declared.WriteRun.{WriteRun}
+use Rattle.model.specs.declared.Controller.{Controller}
 use Rattle.model.specs.Machine.{Machine, machine}
-use Rattle.model.specs.Bus.{sized, served, inside, data_write}
+use Rattle.model.specs.Bus.{sized, served, ◌serves◌, inside, data_write}
 use Rattle.model.specs.Calls.{write, after}
 
 -- a data write goes into memory and is accepted
 unfoldable pub stores : Machine → Bool
-stores m = sized m && served m.controller is Mwrite && inside m
+stores m = sized m && served m.controller serves Mwrite && inside m
 
 -- how many data writes do, one after the other, up to the first that does not
 abbrev pub run_length : Machine → List ℕ → ℕ
@@ -28,6 +27,6 @@ run_outcome m bs =
     let n = run_length m bs in
     record { machine = after m (map write (take n bs)); length = n }
 
--- the outcome that the code's answer stands for, with the memory as it leaves it
-abbrev pub write_run_outcome : WriteRun → List ℕ → RunOutcome
-write_run_outcome r memory = record { machine = machine r.controller memory; length = r.length }
+-- the outcome that the code's answer stands for, with the controller and the memory as it leaves them
+abbrev pub write_run_outcome : Controller → ℕ → List ℕ → RunOutcome
+write_run_outcome c length memory = record { machine = machine c memory; length = length }

@@ -1,23 +1,18 @@
 // Calls of the bus.
-ghost use Rattle.std.specs.Prelude.{◌≡◌, ℕ, List};
-ghost use Rattle.registers.specs.Refusals.{number};
-ghost use Rattle.model.specs.Machine.{reset_controller, machine, refuse, written_outcome, read_outcome, with_pending, ended};
-ghost use Rattle.model.specs.Bus.{ignored, display_off, served, command_write, data_write, cursor_reads, address_byte, data_read};
+ghost use Rattle.std.specs.Prelude.{◌≡◌, ℕ, ◌<◌, List};
+ghost use Rattle.model.specs.Machine.{reset_controller, machine, written_outcome, read_outcome, with_pending};
+ghost use Rattle.model.specs.Bus.{ignored, display_off, served, command_write, write_parameter, data_write, cursor_reads, address_byte, data_read};
 ghost use Rattle.model.specs.WriteRun.{run_outcome, write_run_outcome};
 
-use crate::{Controller, Pending, Read, WriteRun, Written};
-use registers::{Answer, Command, MEMORY_SIZE, ReadAnswer, Refusal, Registers};
+use crate::{Controller, Pending};
+use registers::{Command, MEMORY_SIZE, Refusal, Registers};
 
 // Whether a command is neither taken nor served: asleep, any but SYSTEM SET.
 #[tactic(auto, unfolding(crate::specs::Bus::ignored))]
 fn ignored(command: Command, asleep: bool) -> bool
     ensures { result ≡ ignored command asleep }
 {
-    if command.is(Command::SystemSet) {
-        false
-    } else {
-        asleep
-    }
+    command != Command::SystemSet && asleep
 }
 
 // Whether a command is SLEEP IN with the display off: it is to be on before sleep.
@@ -25,10 +20,7 @@ fn ignored(command: Command, asleep: bool) -> bool
 fn display_off(command: Command, on: bool) -> bool
     ensures { result ≡ display_off command on }
 {
-    if command.is(Command::SleepIn) {
-        return !on;
-    }
-    false
+    command == Command::SleepIn && !on
 }
 
 // How many reads a command gives, but for MREAD, whose reads have no end.
@@ -36,7 +28,7 @@ fn display_off(command: Command, on: bool) -> bool
 fn cursor_reads(command: Command) -> u8
     ensures { result ≡ cursor_reads command }
 {
-    if command.is(Command::Csrr) { 2 } else { 0 }
+    if command == Command::Csrr { 2 } else { 0 }
 }
 
 // The byte of the cursor address that CSRR's read at a place gives.
@@ -57,152 +49,107 @@ impl Controller {
     {
         Controller {
             registers: Registers::reset(),
-            pending: Pending {
-                command: Command::None,
-                place: 0,
-            },
+            pending: Pending::default(),
         }
     }
 
-    // Another command pending, from the start of its list however far the one before had come.
-    fn with_pending(mut self, command: Command) -> Controller
-        ensures { result ≡ with_pending command self }
+    // Another command pending, or none, from the start of its list however far the one before had come.
+    fn set_pending(&mut self, command: Option<Command>)
+        ensures { self.new ≡ with_pending command self.old }
     {
-        let start = 0;
-        let pending = Pending {
-            command: command,
-            place: start,
-        };
-        self.pending = pending;
-        self
-    }
-
-    // Refused, and the pending command ended.
-    fn end_refused(self, refusal: Refusal) -> Written
-        ensures { (memory : List ℕ) → written_outcome result memory ≡ refuse (number refusal) (ended self) memory }
-    {
-        Written {
-            controller: self.with_pending(Command::None),
-            answer: Answer::Refused(refusal),
-        }
+        self.pending = Pending { command, place: 0 };
     }
 
     // The pending command that data writes and reads go to.
     #[tactic(auto, unfolding(crate::specs::Bus::served))]
-    fn served(self) -> Command
-        ensures { result ≡ served self }
+    fn served(&self) -> Option<Command>
+        ensures { result ≡ served self.now }
     {
-        let pending = self.pending;
-        let command = pending.command;
-        if ignored(command, self.registers.asleep) {
-            Command::None
-        } else {
-            command
+        match self.pending.command {
+            Some(command) if !ignored(command, self.registers.asleep) => Some(command),
+            _ => None,
         }
     }
 
-    #[tactic(auto, unfolding(crate::specs::Bus::command_write))]
-    pub fn command_write(mut self, b: u8) -> Written
-        ensures { (memory : List ℕ) → written_outcome result memory ≡ command_write (machine self memory) b }
+    #[tactic(auto, unfolding(crate::specs::Bus::command_write, crate::specs::Bus::take_command))]
+    pub fn command_write(&mut self, b: u8) -> Result<(), Refusal>
+        ensures { (memory : List ℕ) → written_outcome self.new result memory ≡ command_write (machine self.old memory) b }
     {
-        let command = Command::of(b);
-        if command.is(Command::None) {
-            return self.end_refused(Refusal::UnknownCommand);
-        }
+        // A refused byte ends the pending command too.
+        self.set_pending(None);
+        let command = Command::try_from(b)?;
         if ignored(command, self.registers.asleep) {
-            return self.end_refused(Refusal::Asleep);
+            return Err(Refusal::Asleep);
         }
         if display_off(command, self.registers.display.on) {
-            return self.end_refused(Refusal::DisplayOff);
+            return Err(Refusal::DisplayOff);
         }
-        self.registers = self.registers.begin(command, b);
-        Written {
-            controller: self.with_pending(command),
-            answer: Answer::Accepted,
-        }
+        self.registers.begin(command, b);
+        self.set_pending(Some(command));
+        Ok(())
     }
 
-    #[tactic(auto, unfolding(crate::specs::Bus::data_write, crate::specs::Bus::write_parameter))]
-    pub fn data_write(mut self, memory: &mut [u8], b: u8) -> Written
-        ensures { written_outcome result memory.new ≡ data_write (machine self memory.old) b }
+    // A parameter of the pending command.
+    #[tactic(auto, unfolding(crate::specs::Bus::write_parameter))]
+    fn write_parameter(&mut self, command: Command, b: u8) -> Result<(), Refusal>
+        requires { self.old.pending.place < 255 }
+        ensures { (memory : List ℕ) → written_outcome self.new result memory ≡ write_parameter command (machine self.old memory) b }
+    {
+        let place = self.pending.place;
+        if !command.allows(place, b) {
+            self.set_pending(None);
+            return Err(Refusal::NotAllowed);
+        }
+        self.registers.store(command, place, b);
+        self.pending.place = place + 1;
+        Ok(())
+    }
+
+    #[tactic(auto, unfolding(crate::specs::Bus::data_write, crate::specs::Bus::write_data))]
+    pub fn data_write(&mut self, memory: &mut [u8], b: u8) -> Result<(), Refusal>
+        ensures { written_outcome self.new result memory.new ≡ data_write (machine self.old memory.old) b }
     {
         if memory.len() != MEMORY_SIZE {
-            return Written {
-                controller: self,
-                answer: Answer::Refused(Refusal::MemorySize),
-            };
+            return Err(Refusal::MemorySize);
         }
-        let command = self.served();
-        if command.is(Command::Mwrite) {
-            return self.write_memory(memory, b);
+        match self.served() {
+            Some(Command::Mwrite) => self.write_memory(memory, b),
+            Some(command) if self.pending.place < command.parameters() => {
+                self.write_parameter(command, b)
+            }
+            _ => Err(Refusal::NothingWanted),
         }
-        let place = self.pending.place;
-        if command.parameters() <= place {
-            return Written {
-                controller: self,
-                answer: Answer::Refused(Refusal::NothingWanted),
-            };
-        }
-        if command.allows(place, b) {
-            let next = place + 1;
-            self.pending.place = next;
-            self.registers = self.registers.store(command, place, b);
-            return Written {
-                controller: self,
-                answer: Answer::Accepted,
-            };
-        }
-        self.end_refused(Refusal::NotAllowed)
     }
 
-    // The data writes of as many bytes, from the first on, as go into memory and are accepted.
+    // The data writes of as many bytes, from the first on, as go into memory and are accepted; how many they are.
     #[tactic(auto, unfolding(crate::specs::WriteRun::stores))]
-    pub fn write_run(mut self, memory: &mut [u8], bytes: &[u8]) -> WriteRun
-        ensures { write_run_outcome result memory.new ≡ run_outcome (machine self memory.old) bytes.now }
+    pub fn write_run(&mut self, memory: &mut [u8], bytes: &[u8]) -> usize
+        ensures { write_run_outcome self.new result memory.new ≡ run_outcome (machine self.old memory.old) bytes.now }
     {
         if memory.len() != MEMORY_SIZE {
-            return WriteRun {
-                controller: self,
-                length: 0,
-            };
+            return 0;
         }
-        let command = self.served();
-        if command.is(Command::Mwrite) {
-            return self.write_memory_run(memory, bytes);
-        }
-        WriteRun {
-            controller: self,
-            length: 0,
+        match self.served() {
+            Some(Command::Mwrite) => self.write_memory_run(memory, bytes),
+            _ => 0,
         }
     }
 
-    #[tactic(auto, unfolding(crate::specs::Bus::data_read, crate::specs::Bus::read_cursor))]
-    pub fn data_read(mut self, memory: &[u8]) -> Read
-        ensures { read_outcome result memory.now ≡ data_read (machine self memory.now) }
+    #[tactic(auto, unfolding(crate::specs::Bus::data_read, crate::specs::Bus::read_data, crate::specs::Bus::read_cursor))]
+    pub fn data_read(&mut self, memory: &[u8]) -> Result<u8, Refusal>
+        ensures { read_outcome self.new result memory.now ≡ data_read (machine self.old memory.now) }
     {
         if memory.len() != MEMORY_SIZE {
-            return Read {
-                controller: self,
-                answer: ReadAnswer::Refused(Refusal::MemorySize),
-            };
-        }
-        let command = self.served();
-        if command.is(Command::Mread) {
-            return self.read_memory(memory);
+            return Err(Refusal::MemorySize);
         }
         let place = self.pending.place;
-        if cursor_reads(command) <= place {
-            return Read {
-                controller: self,
-                answer: ReadAnswer::Refused(Refusal::NothingToRead),
-            };
-        }
-        let next = place + 1;
-        let value = address_byte(self.registers.cursor.address, place);
-        self.pending.place = next;
-        Read {
-            controller: self,
-            answer: ReadAnswer::Value(value),
+        match self.served() {
+            Some(Command::Mread) => self.read_memory(memory),
+            Some(command) if place < cursor_reads(command) => {
+                self.pending.place = place + 1;
+                Ok(address_byte(self.registers.cursor.address, place))
+            }
+            _ => Err(Refusal::NothingToRead),
         }
     }
 }

@@ -5,12 +5,12 @@ mod bus;
 mod memory;
 mod rows;
 
-use registers::{Answer, Command, ReadAnswer, Registers};
+use registers::{Command, Registers};
 
-// The pending command, and how many of its parameters or reads were taken.
-#[derive(Clone, Copy)]
+// The pending command, if any, and how many of its parameters or reads were taken.
+#[derive(Clone, Copy, Default)]
 pub struct Pending {
-    pub command: Command,
+    pub command: Option<Command>,
     pub place: u8,
 }
 
@@ -18,25 +18,4 @@ pub struct Pending {
 pub struct Controller {
     pub registers: Registers,
     pub pending: Pending,
-}
-
-// What a command write or a data write leaves and answers.
-#[derive(Clone, Copy)]
-pub struct Written {
-    pub controller: Controller,
-    pub answer: Answer,
-}
-
-// What a data read leaves and answers.
-#[derive(Clone, Copy)]
-pub struct Read {
-    pub controller: Controller,
-    pub answer: ReadAnswer,
-}
-
-// What a run of data writes leaves, and how many bytes it took.
-#[derive(Clone, Copy)]
-pub struct WriteRun {
-    pub controller: Controller,
-    pub length: usize,
 }

@@ -1,16 +1,15 @@
 // Accesses to display memory at the cursor, which then moves.
-ghost use Rattle.std.specs.Prelude.{◌≡◌, ℕ, ◌+◌, ◌%◌, min, true, length};
+ghost use Rattle.std.specs.Prelude.{◌≡◌, ℕ, ◌+◌, ◌%◌, true, length};
 ghost use Rattle.registers.specs.declared.Command.TheVariants.{Mwrite};
-ghost use Rattle.registers.specs.Commands.{◌is◌};
 ghost use Rattle.registers.specs.Cursor.{next_address};
 ghost use Rattle.registers.specs.Sizes.{memory_size};
 ghost use Rattle.model.specs.Machine.{machine, written_outcome, read_outcome};
-ghost use Rattle.model.specs.Bus.{served, write_memory, read_memory};
+ghost use Rattle.model.specs.Bus.{served, ◌serves◌, write_memory, read_memory};
 ghost use Rattle.model.specs.WriteRun.{run_outcome, write_run_outcome};
 ghost use Rattle.model.specs.Strides.{stored_outcome, stored_from, InRoom, Fitting};
 
-use crate::{Controller, Read, WriteRun, Written};
-use registers::{Answer, Direction, MEMORY_SIZE, ReadAnswer, Refusal};
+use crate::Controller;
+use registers::{Direction, MEMORY_SIZE, Refusal};
 
 // The last address of memory.
 const LAST_ADDRESS: u16 = (MEMORY_SIZE - 1) as u16;
@@ -22,13 +21,6 @@ struct Stored {
     length: usize,
 }
 
-// The smaller of two counts.
-fn smaller(a: usize, b: usize) -> usize
-    ensures { result ≡ min a b }
-{
-    if a < b { a } else { b }
-}
-
 // How far each access moves the cursor, modulo 65,536.
 #[tactic(auto, unfolding(registers::specs::Cursor::next_address))]
 fn stride(direction: Direction, ap: u16) -> u16
@@ -37,7 +29,7 @@ fn stride(direction: Direction, ap: u16) -> u16
     match direction {
         Direction::Right => 1,
         Direction::Left => 65535,
-        Direction::Up => std::num::wrapping_sub_u16(0, ap),
+        Direction::Up => ap.wrapping_neg(),
         Direction::Down => ap,
     }
 }
@@ -47,14 +39,11 @@ fn store_adjacent(memory: &mut [u8], bytes: &[u8], address: u16) -> Stored
     requires { length memory.old ≡ memory_size }
     ensures { stored_outcome result memory.new ≡ stored_from 1 0 address memory.old bytes.now }
 {
-    let at = address as usize;
+    let at = usize::from(address);
     if memory.len() <= at {
-        return Stored {
-            address: address,
-            length: 0,
-        };
+        return Stored { address, length: 0 };
     }
-    let n = smaller(bytes.len(), memory.len() - at);
+    let n = bytes.len().min(memory.len() - at);
     let end = at + n;
     memory[at..end].copy_from_slice(&bytes[..n]);
     Stored {
@@ -70,7 +59,7 @@ fn in_room(room: u16, step: u16, all: usize) -> usize
     if step == 0 {
         all
     } else {
-        smaller(all, (room / step) as usize + 1)
+        all.min(usize::from(room / step) + 1)
     }
 }
 
@@ -85,7 +74,7 @@ fn fitting(address: u16, stride: u16, all: usize) -> usize
     if stride < 32768 {
         return in_room(LAST_ADDRESS - address, stride, all);
     }
-    in_room(address, std::num::wrapping_sub_u16(0, stride), all)
+    in_room(address, stride.wrapping_neg(), all)
 }
 
 // Bytes stored a stride apart, up to the first address past memory's end. How many is found first, so that the loop tests nothing else; and
@@ -96,16 +85,13 @@ fn store_strided(memory: &mut [u8], bytes: &[u8], address: u16, stride: u16) -> 
 {
     let count = fitting(address, stride, bytes.len());
     let mut next = address;
-    let mut i: usize = 0;
-    while i < count {
-        let at = next as usize;
-        memory[at] = bytes[i];
-        i += 1;
-        next = std::num::wrapping_add_u16(next, stride);
+    for byte in &bytes[..count] {
+        memory[usize::from(next)] = *byte;
+        next = next.wrapping_add(stride);
     }
     Stored {
         address: next,
-        length: i,
+        length: count,
     }
 }
 
@@ -124,62 +110,38 @@ fn store_from(memory: &mut [u8], bytes: &[u8], address: u16, stride: u16) -> Sto
 impl Controller {
     // The byte b stored at the cursor.
     #[tactic(auto, unfolding(crate::specs::Bus::write_memory))]
-    pub(crate) fn write_memory(mut self, memory: &mut [u8], b: u8) -> Written
-        ensures { written_outcome result memory.new ≡ write_memory (machine self memory.old) b }
+    pub(crate) fn write_memory(&mut self, memory: &mut [u8], b: u8) -> Result<(), Refusal>
+        ensures { written_outcome self.new result memory.new ≡ write_memory (machine self.old memory.old) b }
     {
-        let cursor = self.registers.cursor;
-        let at = cursor.address as usize;
-        self.registers = self.registers.move_cursor();
-        if at < memory.len() {
-            memory[at] = b;
-            Written {
-                controller: self,
-                answer: Answer::Accepted,
-            }
-        } else {
-            Written {
-                controller: self,
-                answer: Answer::Refused(Refusal::OutsideMemory),
-            }
+        let at = usize::from(self.registers.cursor.address);
+        self.registers.move_cursor();
+        if memory.len() <= at {
+            return Err(Refusal::OutsideMemory);
         }
+        memory[at] = b;
+        Ok(())
     }
 
-    // Bytes stored from the cursor on while it is inside memory.
-    pub(crate) fn write_memory_run(mut self, memory: &mut [u8], bytes: &[u8]) -> WriteRun
+    // Bytes stored from the cursor on while it is inside memory; how many they are.
+    pub(crate) fn write_memory_run(&mut self, memory: &mut [u8], bytes: &[u8]) -> usize
         requires memory_len { length memory.old ≡ memory_size }
-        requires serves_mwrite { (served self is Mwrite) ≡ true }
-        ensures { write_run_outcome result memory.new ≡ run_outcome (machine self memory.old) bytes.now }
+        requires serves_mwrite { served self.old serves Mwrite ≡ true }
+        ensures { write_run_outcome self.new result memory.new ≡ run_outcome (machine self.old memory.old) bytes.now }
     {
         let cursor = self.registers.cursor;
-        let direction = cursor.direction;
-        let step = stride(direction, self.registers.system.ap);
+        let step = stride(cursor.direction, self.registers.system.ap);
         let stored = store_from(memory, bytes, cursor.address, step);
-        let address = stored.address;
-        self.registers.cursor.address = address;
-        WriteRun {
-            controller: self,
-            length: stored.length,
-        }
+        self.registers.cursor.address = stored.address;
+        stored.length
     }
 
     // The byte at the cursor.
     #[tactic(auto, unfolding(crate::specs::Bus::read_memory))]
-    pub(crate) fn read_memory(mut self, memory: &[u8]) -> Read
-        ensures { read_outcome result memory.now ≡ read_memory (machine self memory.now) }
+    pub(crate) fn read_memory(&mut self, memory: &[u8]) -> Result<u8, Refusal>
+        ensures { read_outcome self.new result memory.now ≡ read_memory (machine self.old memory.now) }
     {
-        let cursor = self.registers.cursor;
-        let at = cursor.address as usize;
-        self.registers = self.registers.move_cursor();
-        if at < memory.len() {
-            Read {
-                controller: self,
-                answer: ReadAnswer::Value(memory[at]),
-            }
-        } else {
-            Read {
-                controller: self,
-                answer: ReadAnswer::Refused(Refusal::OutsideMemory),
-            }
-        }
+        let at = usize::from(self.registers.cursor.address);
+        self.registers.move_cursor();
+        memory.get(at).copied().ok_or(Refusal::OutsideMemory)
     }
 }

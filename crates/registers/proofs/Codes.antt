@@ -1,12 +1,11 @@
 -- A command is known by its code.
-use Rattle.std.proofs.Common.{◌≡◌, true, sym, refl, ap, ◌∙◌, eqb-true}
+use Rattle.std.proofs.Common.{◌≡◌, true, Some, sym, refl, ap, ◌∙◌, eqb-true}
 use Rattle.registers.specs.declared.Command.{Command}
-use Rattle.registers.specs.declared.Command.TheVariants.{None, SystemSet, SleepIn, Disp, Scroll, CsrForm, CsrDir, Ovlay, CgramAdr, HdotScr, GrayScale, Csrw, Csrr, Mwrite, Mread}
+use Rattle.registers.specs.declared.Command.TheVariants.{SystemSet, SleepIn, Disp, Scroll, CsrForm, CsrDir, Ovlay, CgramAdr, HdotScr, GrayScale, Csrw, Csrr, Mwrite, Mread}
 use Rattle.registers.specs.Commands.{command_of, code, ◌is◌}
 
-pub of_code : (c : Command) → command_of (code c) ≡ c
+pub of_code : (c : Command) → command_of (code c) ≡ Some c
 unfolding command_of
-of_code None = refl
 of_code SystemSet = refl
 of_code SleepIn = refl
 of_code Disp = refl
@@ -23,4 +22,4 @@ of_code Mwrite = refl
 of_code Mread = refl
 
 pub is_same : (c d : Command) → (c is d) ≡ true → c ≡ d
-is_same c d e = sym (of_code c) ∙ ap command_of (eqb-true _ _ e) ∙ of_code d
+is_same c d e = let s : Some c ≡ Some d = sym (of_code c) ∙ ap command_of (eqb-true _ _ e) ∙ of_code d in cc

@@ -1,26 +1,26 @@
 -- 01, 'Refusal numbers': no two answers have the same reply; so no two refusals have one number, and none has 0 or 255.
-use Rattle.std.proofs.Common.{◌≡◌, ℕ, ◌<◌, ◌≤◌, ◌⊎◌, List, [], ◌∷◌, get_or, sym, refl, ap, ◌∙◌, inl, inr, le_trans, arith, lit≤}
+use Rattle.std.proofs.Common.{◌≡◌, ℕ, ◌<◌, ◌≤◌, ◌⊎◌, List, [], ◌∷◌, get_or, Result, Ok, Err, sym, refl, ap, ◌∙◌, inl, inr, le_trans, arith, lit≤}
 use lib.ListN.{get_or-eq_default}
 use Rattle.choice.proofs.Cases.{lt_or_le}
 use Rattle.registers.specs.declared.Refusal.{Refusal}
 use Rattle.registers.specs.declared.Refusal.TheVariants.{MemorySize, UnknownCommand, NothingWanted, NotAllowed, Asleep, NothingToRead, OutsideMemory, FontSize, GreyMode, CharacterWidth, RowWidth, OddLines, ShortLine, LayerOrder, CursorShape, RowNumber, BufferSize, SmoothScroll, DisplayOff}
-use Rattle.registers.specs.declared.Answer.{Answer}
-use Rattle.registers.specs.declared.Answer.TheVariants.{Accepted, Refused}
-use Rattle.registers.specs.declared.ReadAnswer.{ReadAnswer}
-use Rattle.registers.specs.declared.ReadAnswer.TheVariants.{Value, Refused as ReadRefused}
 use Rattle.registers.specs.Refusals.{Reply, number, reply, read_reply}
+
+-- what is answered: nothing, or a refusal
+abbrev Answer : Type 0
+Answer = Result Unit Refusal
 
 abbrev answers : List Answer
 answers =
-    Accepted ∷ Refused MemorySize ∷ Refused UnknownCommand ∷ Refused NothingWanted ∷ Refused NotAllowed ∷ Refused Asleep
-    ∷ Refused NothingToRead ∷ Refused OutsideMemory ∷ Refused FontSize ∷ Refused GreyMode ∷ Refused CharacterWidth ∷ Refused RowWidth
-    ∷ Refused OddLines ∷ Refused ShortLine ∷ Refused LayerOrder ∷ Refused CursorShape ∷ Refused RowNumber ∷ Refused BufferSize ∷ Refused SmoothScroll
-    ∷ Refused DisplayOff ∷ []
+    Ok tt ∷ Err MemorySize ∷ Err UnknownCommand ∷ Err NothingWanted ∷ Err NotAllowed ∷ Err Asleep
+    ∷ Err NothingToRead ∷ Err OutsideMemory ∷ Err FontSize ∷ Err GreyMode ∷ Err CharacterWidth ∷ Err RowWidth
+    ∷ Err OddLines ∷ Err ShortLine ∷ Err LayerOrder ∷ Err CursorShape ∷ Err RowNumber ∷ Err BufferSize ∷ Err SmoothScroll
+    ∷ Err DisplayOff ∷ []
 
 abbrev answered : ℕ → Answer
-answered n = get_or answers n Accepted
+answered n = get_or answers n (Ok tt)
 
-of_number : (r : Refusal) → Refused r ≡ answered (number r)
+of_number : (r : Refusal) → Err r ≡ answered (number r)
 of_number MemorySize = refl
 of_number UnknownCommand = refl
 of_number NothingWanted = refl
@@ -42,26 +42,26 @@ of_number SmoothScroll = refl
 of_number DisplayOff = refl
 
 of_reply : (a : Answer) → a ≡ answered (reply a).refusal
-of_reply Accepted = refl
-of_reply (Refused r) = of_number r
+of_reply (Ok tt) = refl
+of_reply (Err r) = of_number r
 
 pub replies_distinct : (a b : Answer) → reply a ≡ reply b → a ≡ b
 replies_distinct a b e = of_reply a ∙ ap (λ (r : Reply). answered r.refusal) e ∙ sym (of_reply b)
 
-abbrev to_read : ℕ → Answer → ReadAnswer
-to_read v Accepted = Value v
-to_read v (Refused r) = ReadRefused r
+abbrev to_read : ℕ → Answer → Result ℕ Refusal
+to_read v (Ok tt) = Ok v
+to_read v (Err r) = Err r
 
-of_read : (a : ReadAnswer) → a ≡ to_read (read_reply a).value (answered (read_reply a).refusal)
-of_read (Value v) = refl
-of_read (ReadRefused r) = ap (to_read 0) (of_number r)
+of_read : (a : Result ℕ Refusal) → a ≡ to_read (read_reply a).value (answered (read_reply a).refusal)
+of_read (Ok v) = refl
+of_read (Err r) = ap (to_read 0) (of_number r)
 
-pub read_replies_distinct : (a b : ReadAnswer) → read_reply a ≡ read_reply b → a ≡ b
+pub read_replies_distinct : (a b : Result ℕ Refusal) → read_reply a ≡ read_reply b → a ≡ b
 read_replies_distinct a b e = of_read a ∙ ap (λ (r : Reply). to_read r.value (answered r.refusal)) e ∙ sym (of_read b)
 
-not_accepted : (r : Refusal) → answered (number r) ≡ Accepted → ⊥
+not_accepted : (r : Refusal) → answered (number r) ≡ Ok tt → ⊥
 not_accepted r e =
-    let a : Refused r ≡ Accepted = of_number r ∙ e in
+    let a : Err r ≡ Ok tt = of_number r ∙ e in
     let z : ◌≡◌ {A = ℕ} 0 1 = cc in
     omega arith
 
@@ -74,4 +74,4 @@ number_below r = go (lt_or_le (number r) 255)
   where
     go : (number r < 255) ⊎ (255 ≤ number r) → number r < 255
     go (inl h) = h
-    go (inr h) = absurd (not_accepted r (get_or-eq_default answers Accepted (le_trans (lit≤ tt) h)))
+    go (inr h) = absurd (not_accepted r (get_or-eq_default answers (Ok tt) (le_trans (lit≤ tt) h)))

@@ -1,13 +1,12 @@
 -- Reference, 'Commands'; 01, the command table: codes, commands and how many parameters each takes.
-use Rattle.std.specs.Prelude.{ℕ, Bool, ◌&&◌, List, [], ◌∷◌}
+use Rattle.std.specs.Prelude.{ℕ, Bool, ◌&&◌, List, [], ◌∷◌, Option, None, Some}
 use Rattle.choice.specs.Choice.{when◌then◌else◌, ◌≤?◌, ◌=?◌}
 use Rattle.registers.specs.declared.Command.{Command}
-use Rattle.registers.specs.declared.Command.TheVariants.{None, SystemSet, SleepIn, Disp, Scroll, CsrForm, CsrDir, Ovlay, CgramAdr, HdotScr, GrayScale, Csrw, Csrr, Mwrite, Mread}
+use Rattle.registers.specs.declared.Command.TheVariants.{SystemSet, SleepIn, Disp, Scroll, CsrForm, CsrDir, Ovlay, CgramAdr, HdotScr, GrayScale, Csrw, Csrr, Mwrite, Mread}
 
 infix 45 ◌is◌
--- an entry of the table: the command's first and last code, and how many parameters it takes; 0, which is no code, of `None`
+-- an entry of the table: the command's first and last code, and how many parameters it takes
 abbrev pub entry : Command → ℕ × ℕ × ℕ
-entry None = (0x00, 0x00, 0)
 entry SystemSet = (0x40, 0x40, 8)
 entry SleepIn = (0x53, 0x53, 0)
 entry Disp = (0x58, 0x59, 1)
@@ -33,13 +32,13 @@ abbrev pub commands : List Command
 commands =
     SystemSet ∷ SleepIn ∷ Disp ∷ Scroll ∷ CsrForm ∷ CsrDir ∷ Ovlay ∷ CgramAdr ∷ HdotScr ∷ GrayScale ∷ Csrw ∷ Csrr ∷ Mwrite ∷ Mread ∷ []
 
--- the first that has a byte as a code, `None` where none has
-abbrev pub find : ℕ → List Command → Command
+-- the first that has a byte as a code
+abbrev pub find : ℕ → List Command → Option Command
 find b [] = None
-find b (c ∷ cs) = when (entry c).0 ≤? b && b ≤? (entry c).1 then c else find b cs
+find b (c ∷ cs) = when (entry c).0 ≤? b && b ≤? (entry c).1 then Some c else find b cs
 
 -- the command of a byte, `None` where it is none of the 18 codes
-unfoldable pub command_of : ℕ → Command
+unfoldable pub command_of : ℕ → Option Command
 command_of b = find b commands
 
 -- the same command

@@ -1,11 +1,7 @@
 -- Reference, 'Refusals'; 01, 'Refusal numbers', and requests #101 and #102.
-use Rattle.std.specs.Prelude.{ℕ}
+use Rattle.std.specs.Prelude.{ℕ, Result, Ok, Err}
 use Rattle.registers.specs.declared.Refusal.{Refusal}
 use Rattle.registers.specs.declared.Refusal.TheVariants.{MemorySize, UnknownCommand, NothingWanted, NotAllowed, Asleep, NothingToRead, OutsideMemory, FontSize, GreyMode, CharacterWidth, RowWidth, OddLines, ShortLine, LayerOrder, CursorShape, RowNumber, BufferSize, SmoothScroll, DisplayOff}
-use Rattle.registers.specs.declared.Answer.{Answer}
-use Rattle.registers.specs.declared.Answer.TheVariants.{Accepted, Refused}
-use Rattle.registers.specs.declared.ReadAnswer.{ReadAnswer}
-use Rattle.registers.specs.declared.ReadAnswer.TheVariants.{Value, Refused as ReadRefused}
 
 abbrev pub number : Refusal → ℕ
 -- memory is not 32,768 bytes
@@ -61,10 +57,11 @@ valued v = record { refusal = 0; value = v }
 abbrev pub refused : ℕ → Reply
 refused n = record { refusal = n; value = 0 }
 
-abbrev pub reply : Answer → Reply
-reply Accepted = accepted
-reply (Refused r) = refused (number r)
+-- the reply of a write or a row, and of a read
+abbrev pub reply : Result Unit Refusal → Reply
+reply (Ok _) = accepted
+reply (Err r) = refused (number r)
 
-abbrev pub read_reply : ReadAnswer → Reply
-read_reply (Value v) = valued v
-read_reply (ReadRefused r) = refused (number r)
+abbrev pub read_reply : Result ℕ Refusal → Reply
+read_reply (Ok v) = valued v
+read_reply (Err r) = refused (number r)

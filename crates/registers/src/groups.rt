@@ -6,35 +6,35 @@ use crate::{Blocks, CursorForm, Display, Overlay, System};
 
 // The two-byte register x with b as its low byte.
 #[tactic(auto, unfolding(crate::specs::Parameters::with_low))]
-fn with_low(x: u16, b: u8) -> u16
-    ensures { result ≡ with_low x b }
+fn set_low(x: &mut u16, b: u8)
+    ensures { x.new ≡ with_low x.old b }
 {
-    x / 256 * 256 + b as u16
+    *x = *x / 256 * 256 + u16::from(b);
 }
 
 // The two-byte register x with b as its high byte.
 #[tactic(auto, unfolding(crate::specs::Parameters::with_high))]
-fn with_high(x: u16, b: u8) -> u16
-    ensures { result ≡ with_high x b }
+fn set_high(x: &mut u16, b: u8)
+    ensures { x.new ≡ with_high x.old b }
 {
-    b as u16 * 256 + x % 256
+    *x = u16::from(b) * 256 + *x % 256;
 }
 
 // The two-byte register x after a parameter of a command that has no other.
-pub(crate) fn store_word(x: u16, place: u8, b: u8) -> u16
-    ensures { result ≡ store_word 0 place b x }
+pub(crate) fn store_word(x: &mut u16, place: u8, b: u8)
+    ensures { x.new ≡ store_word 0 place b x.old }
 {
     match place {
-        0 => with_low(x, b),
-        1 => with_high(x, b),
-        _ => x,
+        0 => set_low(x, b),
+        1 => set_high(x, b),
+        _ => {}
     }
 }
 
 impl System {
     #[tactic(auto, unfolding(crate::specs::Parameters::store_system))]
-    pub(crate) fn store(mut self, place: u8, b: u8) -> System
-        ensures { result ≡ store_system place b self }
+    pub(crate) fn store(&mut self, place: u8, b: u8)
+        ensures { self.new ≡ store_system place b self.old }
     {
         match place {
             0 => {
@@ -44,22 +44,17 @@ impl System {
                 self.m0 = b % 2 == 1;
             }
             1 => {
-                let fx = b % 16;
                 self.wf = b / 128 % 2 == 1;
-                self.fx.0 = fx;
+                self.fx.0 = b % 16;
             }
-            2 => {
-                let fy = b % 16;
-                self.fy.0 = fy;
-            }
+            2 => self.fy.0 = b % 16,
             3 => self.cr.0 = b,
             4 => self.tcr.0 = b,
             5 => self.lf.0 = b,
-            6 => self.ap = with_low(self.ap, b),
-            7 => self.ap = with_high(self.ap, b),
+            6 => set_low(&mut self.ap, b),
+            7 => set_high(&mut self.ap, b),
             _ => {}
         }
-        self
     }
 
     #[tactic(auto, unfolding(crate::specs::Parameters::system_allows))]
@@ -67,17 +62,7 @@ impl System {
         ensures { result ≡ system_allows place b }
     {
         match place {
-            0 => {
-                if b / 64 % 4 == 0 {
-                    if b / 16 % 2 == 1 {
-                        b / 2 % 2 == 0
-                    } else {
-                        false
-                    }
-                } else {
-                    false
-                }
-            }
+            0 => b / 64 % 4 == 0 && b / 16 % 2 == 1 && b / 2 % 2 == 0,
             1 => b / 16 % 8 == 0,
             2 => b / 16 % 16 == 0,
             _ => true,
@@ -87,57 +72,50 @@ impl System {
 
 impl Display {
     #[tactic(auto, unfolding(crate::specs::Parameters::store_display))]
-    pub(crate) fn store(mut self, place: u8, b: u8) -> Display
-        ensures { result ≡ store_display place b self }
+    pub(crate) fn store(&mut self, place: u8, b: u8)
+        ensures { self.new ≡ store_display place b self.old }
     {
         if place == 0 {
             self.fp = b / 4 % 64;
             self.fc = b % 4;
         }
-        self
     }
 }
 
 impl Blocks {
     #[tactic(auto, unfolding(crate::specs::Parameters::store_blocks))]
-    pub(crate) fn store(mut self, place: u8, b: u8) -> Blocks
-        ensures { result ≡ store_blocks place b self }
+    pub(crate) fn store(&mut self, place: u8, b: u8)
+        ensures { self.new ≡ store_blocks place b self.old }
     {
         match place {
-            0 => self.sad1 = with_low(self.sad1, b),
-            1 => self.sad1 = with_high(self.sad1, b),
+            0 => set_low(&mut self.sad1, b),
+            1 => set_high(&mut self.sad1, b),
             2 => self.sl1.0 = b,
-            3 => self.sad2 = with_low(self.sad2, b),
-            4 => self.sad2 = with_high(self.sad2, b),
+            3 => set_low(&mut self.sad2, b),
+            4 => set_high(&mut self.sad2, b),
             5 => self.sl2.0 = b,
-            6 => self.sad3 = with_low(self.sad3, b),
-            7 => self.sad3 = with_high(self.sad3, b),
-            8 => self.sad4 = with_low(self.sad4, b),
-            9 => self.sad4 = with_high(self.sad4, b),
+            6 => set_low(&mut self.sad3, b),
+            7 => set_high(&mut self.sad3, b),
+            8 => set_low(&mut self.sad4, b),
+            9 => set_high(&mut self.sad4, b),
             _ => {}
         }
-        self
     }
 }
 
 impl CursorForm {
     #[tactic(auto, unfolding(crate::specs::Parameters::store_form))]
-    pub(crate) fn store(mut self, place: u8, b: u8) -> CursorForm
-        ensures { result ≡ store_form place b self }
+    pub(crate) fn store(&mut self, place: u8, b: u8)
+        ensures { self.new ≡ store_form place b self.old }
     {
         match place {
-            0 => {
-                let crx = b % 16;
-                self.crx.0 = crx;
-            }
+            0 => self.crx.0 = b % 16,
             1 => {
-                let cry = b % 16;
                 self.cm = b / 128 % 2 == 1;
-                self.cry.0 = cry;
+                self.cry.0 = b % 16;
             }
             _ => {}
         }
-        self
     }
 
     #[tactic(auto, unfolding(crate::specs::Parameters::form_allows))]
@@ -146,7 +124,7 @@ impl CursorForm {
     {
         match place {
             0 => b / 16 % 16 == 0,
-            1 => if b / 16 % 8 == 0 { b % 16 != 0 } else { false },
+            1 => b / 16 % 8 == 0 && b % 16 != 0,
             _ => true,
         }
     }
@@ -154,8 +132,8 @@ impl CursorForm {
 
 impl Overlay {
     #[tactic(auto, unfolding(crate::specs::Parameters::store_overlay))]
-    pub(crate) fn store(mut self, place: u8, b: u8) -> Overlay
-        ensures { result ≡ store_overlay place b self }
+    pub(crate) fn store(&mut self, place: u8, b: u8)
+        ensures { self.new ≡ store_overlay place b self.old }
     {
         if place == 0 {
             self.ov = b / 16 % 2 == 1;
@@ -163,6 +141,5 @@ impl Overlay {
             self.dm1 = b / 4 % 2 == 1;
             self.mx = b % 4;
         }
-        self
     }
 }

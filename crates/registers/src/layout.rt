@@ -16,10 +16,8 @@ impl System {
     pub(crate) fn in_layout(mut self) -> System
         ensures { result ≡ system_in_layout self }
     {
-        let fx = read_field(16, self.fx.0);
-        let fy = read_field(16, self.fy.0);
-        self.fx.0 = fx;
-        self.fy.0 = fy;
+        self.fx.0 = read_field(16, self.fx.0);
+        self.fy.0 = read_field(16, self.fy.0);
         self
     }
 }
@@ -38,10 +36,8 @@ impl CursorForm {
     pub(crate) fn in_layout(mut self) -> CursorForm
         ensures { result ≡ form_in_layout self }
     {
-        let crx = read_field(16, self.crx.0);
-        let cry = read_field(16, self.cry.0);
-        self.crx.0 = crx;
-        self.cry.0 = cry;
+        self.crx.0 = read_field(16, self.crx.0);
+        self.cry.0 = read_field(16, self.cry.0);
         self
     }
 }

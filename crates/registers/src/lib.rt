@@ -17,7 +17,7 @@ pub const MEMORY_SIZE: usize = 32768;
 pub const FONT_SIZE: usize = 1280;
 
 // A code n as the manual stores it.
-#[derive(Clone, Copy)]
+#[derive(Clone, Copy, Default)]
 pub struct Code(pub u8);
 
 // The count [n] = n + 1 that a code n stands for.
@@ -28,32 +28,31 @@ impl Code {
     pub fn count(self) -> Count
         ensures { result ≡ count self }
     {
-        Count(self.0 as u16 + 1)
+        Count(u16::from(self.0) + 1)
     }
 }
 
-// A command of the command table, or none.
-#[derive(Clone, Copy)]
+// A command of the command table, and its code, the first of a range.
+#[derive(Clone, Copy, PartialEq, Eq)]
 pub enum Command {
-    None,
-    SystemSet,
-    SleepIn,
-    Disp,
-    Scroll,
-    CsrForm,
-    CsrDir,
-    Ovlay,
-    CgramAdr,
-    HdotScr,
-    GrayScale,
-    Csrw,
-    Csrr,
-    Mwrite,
-    Mread,
+    SystemSet = 0x40,
+    SleepIn = 0x53,
+    Disp = 0x58,
+    Scroll = 0x44,
+    CsrForm = 0x5D,
+    CsrDir = 0x4C,
+    Ovlay = 0x5B,
+    CgramAdr = 0x5C,
+    HdotScr = 0x5A,
+    GrayScale = 0x60,
+    Csrw = 0x46,
+    Csrr = 0x47,
+    Mwrite = 0x42,
+    Mread = 0x43,
 }
 
 // SYSTEM SET.
-#[derive(Clone, Copy)]
+#[derive(Clone, Copy, Default)]
 pub struct System {
     pub iv: bool,
     pub ws: bool,
@@ -69,7 +68,7 @@ pub struct System {
 }
 
 // DISP OFF and DISP ON: D, which waking clears too, and the flashing of the blocks and of the cursor.
-#[derive(Clone, Copy)]
+#[derive(Clone, Copy, Default)]
 pub struct Display {
     pub on: bool,
     pub fp: u8,
@@ -77,7 +76,7 @@ pub struct Display {
 }
 
 // SCROLL: where the four screen blocks start, and the lines of blocks 1 and 2.
-#[derive(Clone, Copy)]
+#[derive(Clone, Copy, Default)]
 pub struct Blocks {
     pub sad1: u16,
     pub sl1: Code,
@@ -88,7 +87,7 @@ pub struct Blocks {
 }
 
 // CSRFORM.
-#[derive(Clone, Copy)]
+#[derive(Clone, Copy, Default)]
 pub struct CursorForm {
     pub crx: Code,
     pub cm: bool,
@@ -96,7 +95,7 @@ pub struct CursorForm {
 }
 
 // OVLAY.
-#[derive(Clone, Copy)]
+#[derive(Clone, Copy, Default)]
 pub struct Overlay {
     pub ov: bool,
     pub dm2: bool,
@@ -104,8 +103,9 @@ pub struct Overlay {
     pub mx: u8,
 }
 
-#[derive(Clone, Copy)]
+#[derive(Clone, Copy, Default)]
 pub enum Direction {
+    #[default]
     Right,
     Left,
     Up,
@@ -113,14 +113,14 @@ pub enum Direction {
 }
 
 // CSRW and CSRDIR.
-#[derive(Clone, Copy)]
+#[derive(Clone, Copy, Default)]
 pub struct Cursor {
     pub address: u16,
     pub direction: Direction,
 }
 
 // All that the controller stores but the pending command.
-#[derive(Clone, Copy)]
+#[derive(Clone, Copy, Default)]
 pub struct Registers {
     pub system: System,
     pub display: Display,
@@ -134,7 +134,7 @@ pub struct Registers {
     pub asleep: bool,
 }
 
-// The refusals, in the order of their numbers.
+// The refusals, in the order of their numbers: the error of a call that is refused.
 #[derive(Clone, Copy)]
 pub enum Refusal {
     MemorySize,
@@ -156,18 +156,4 @@ pub enum Refusal {
     BufferSize,
     SmoothScroll,
     DisplayOff,
-}
-
-// What a write or a row answers.
-#[derive(Clone, Copy)]
-pub enum Answer {
-    Accepted,
-    Refused(Refusal),
-}
-
-// What a read answers.
-#[derive(Clone, Copy)]
-pub enum ReadAnswer {
-    Value(u8),
-    Refused(Refusal),
 }

@@ -8,42 +8,36 @@ use crate::{Cursor, Direction, Registers};
 fn forward(address: u16, step: u16) -> u16
     ensures { result ≡ (address + step) % 65536 }
 {
-    std::num::wrapping_add_u16(address, step)
+    address.wrapping_add(step)
 }
 
 // The address so many bytes back.
 fn back(address: u16, step: u16) -> u16
     ensures { result ≡ (address + 65536 - step) % 65536 }
 {
-    std::num::wrapping_sub_u16(address, step)
+    address.wrapping_sub(step)
 }
 
 impl Cursor {
     // The cursor after a memory access.
     #[tactic(auto, unfolding(crate::specs::Cursor::next_address))]
-    fn next(self, ap: u16) -> Cursor
-        ensures { result ≡ next_cursor ap self }
+    fn advance(&mut self, ap: u16)
+        ensures { self.new ≡ next_cursor ap self.old }
     {
-        let direction = self.direction;
-        let address = match direction {
+        self.address = match self.direction {
             Direction::Right => forward(self.address, 1),
             Direction::Left => back(self.address, 1),
             Direction::Up => back(self.address, ap),
             Direction::Down => forward(self.address, ap),
         };
-        Cursor {
-            address: address,
-            direction: direction,
-        }
     }
 }
 
 impl Registers {
     // The registers after a memory access.
-    pub fn move_cursor(mut self) -> Registers
-        ensures { result ≡ move_cursor self }
+    pub fn move_cursor(&mut self)
+        ensures { self.new ≡ move_cursor self.old }
     {
-        self.cursor = self.cursor.next(self.system.ap);
-        self
+        self.cursor.advance(self.system.ap);
     }
 }

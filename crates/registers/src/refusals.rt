@@ -1,14 +1,14 @@
-// The number of a refusal.
+// The number of a refusal. A match, and not discriminants, which differ by themselves: that these do is proved (proofs/Numbers).
 ghost use Rattle.std.specs.Prelude.{◌≡◌};
 ghost use Rattle.registers.specs.Refusals.{number};
 
 use crate::Refusal;
 
-impl Refusal {
-    pub fn number(self) -> u8
-        ensures { result ≡ number self }
-    {
-        match self {
+impl From<Refusal> for u8 {
+    ghost from_gives = { λ refusal n. n ≡ number refusal };
+
+    fn from(refusal: Refusal) -> u8 {
+        match refusal {
             Refusal::MemorySize => 1,
             Refusal::UnknownCommand => 2,
             Refusal::NothingWanted => 3,

@@ -8,7 +8,7 @@ use crate::{
 };
 
 impl Direction {
-    // The direction of a byte from 4C to 4F; any other counts as the last.
+    // The direction of a byte from 4C to 4F; any other counts as the last, so that it is no conversion of a byte.
     #[tactic(auto, unfolding(crate::specs::Parameters::direction_of))]
     pub fn of(b: u8) -> Direction
         ensures { result ≡ direction_of b }
@@ -33,17 +33,8 @@ impl Command {
             Command::CsrForm => CursorForm::allows(place, b),
             Command::Ovlay => b / 32 % 8 == 0,
             Command::HdotScr => b / 8 % 32 == 0,
-            Command::GrayScale => if b / 4 % 64 == 0 { b != 3 } else { false },
-            Command::None => true,
-            Command::SleepIn => true,
-            Command::Disp => true,
-            Command::Scroll => true,
-            Command::CsrDir => true,
-            Command::CgramAdr => true,
-            Command::Csrw => true,
-            Command::Csrr => true,
-            Command::Mwrite => true,
-            Command::Mread => true,
+            Command::GrayScale => b / 4 % 64 == 0 && b != 3,
+            _ => true,
         }
     }
 }
@@ -52,111 +43,41 @@ impl Registers {
     pub fn reset() -> Registers
         ensures { result ≡ reset_registers }
     {
-        Registers {
-            system: System {
-                iv: false,
-                ws: false,
-                m2: false,
-                m0: false,
-                wf: false,
-                fx: Code(0),
-                fy: Code(0),
-                cr: Code(0),
-                tcr: Code(0),
-                lf: Code(0),
-                ap: 0,
-            },
-            display: Display {
-                on: false,
-                fp: 0,
-                fc: 0,
-            },
-            blocks: Blocks {
-                sad1: 0,
-                sl1: Code(0),
-                sad2: 0,
-                sl2: Code(0),
-                sad3: 0,
-                sad4: 0,
-            },
-            form: CursorForm {
-                crx: Code(0),
-                cm: false,
-                cry: Code(0),
-            },
-            overlay: Overlay {
-                ov: false,
-                dm2: false,
-                dm1: false,
-                mx: 0,
-            },
-            cgram: 0,
-            hdot: 0,
-            grey: 0,
-            cursor: Cursor {
-                address: 0,
-                direction: Direction::Right,
-            },
-            asleep: false,
-        }
+        Registers::default()
     }
 
     // What the byte b of a command sets at once.
     #[tactic(auto, unfolding(crate::specs::Parameters::begin))]
-    pub fn begin(mut self, command: Command, b: u8) -> Registers
-        ensures { result ≡ begin command b self }
+    pub fn begin(&mut self, command: Command, b: u8)
+        ensures { self.new ≡ begin command b self.old }
     {
         match command {
             Command::SleepIn => self.asleep = true,
-            Command::Disp => {
-                let on = b == 0x59;
-                self.display.on = on;
-            }
-            Command::CsrDir => {
-                let direction = Direction::of(b);
-                let cursor = Cursor {
-                    address: self.cursor.address,
-                    direction: direction,
-                };
-                self.cursor = cursor;
-            }
-            Command::None => {}
-            Command::SystemSet => {}
-            Command::Scroll => {}
-            Command::CsrForm => {}
-            Command::Ovlay => {}
-            Command::CgramAdr => {}
-            Command::HdotScr => {}
-            Command::GrayScale => {}
-            Command::Csrw => {}
-            Command::Csrr => {}
-            Command::Mwrite => {}
-            Command::Mread => {}
+            Command::Disp => self.display.on = b == 0x59,
+            Command::CsrDir => self.cursor.direction = Direction::of(b),
+            _ => {}
         }
-        self
     }
 
     // The parameter b at a place of a command's list, stored.
     #[tactic(auto, unfolding(crate::specs::Parameters::store))]
-    pub fn store(mut self, command: Command, place: u8, b: u8) -> Registers
-        ensures { result ≡ store command place b self }
+    pub fn store(&mut self, command: Command, place: u8, b: u8)
+        ensures { self.new ≡ store command place b self.old }
     {
         match command {
             Command::SystemSet => {
-                self.system = self.system.store(place, b);
-                if place == 0 {
-                    // It wakes the chip, and the display stays off until DISP ON.
-                    if self.asleep {
-                        self.asleep = false;
-                        self.display.on = false;
-                    }
+                self.system.store(place, b);
+                // It wakes the chip, and the display stays off until DISP ON.
+                if place == 0 && self.asleep {
+                    self.asleep = false;
+                    self.display.on = false;
                 }
             }
-            Command::Disp => self.display = self.display.store(place, b),
-            Command::Scroll => self.blocks = self.blocks.store(place, b),
-            Command::CsrForm => self.form = self.form.store(place, b),
-            Command::Ovlay => self.overlay = self.overlay.store(place, b),
-            Command::CgramAdr => self.cgram = store_word(self.cgram, place, b),
+            Command::Disp => self.display.store(place, b),
+            Command::Scroll => self.blocks.store(place, b),
+            Command::CsrForm => self.form.store(place, b),
+            Command::Ovlay => self.overlay.store(place, b),
+            Command::CgramAdr => store_word(&mut self.cgram, place, b),
             Command::HdotScr => {
                 if place == 0 {
                     self.hdot = b % 8;
@@ -167,17 +88,8 @@ impl Registers {
                     self.grey = b % 4;
                 }
             }
-            Command::Csrw => {
-                let address = store_word(self.cursor.address, place, b);
-                self.cursor.address = address;
-            }
-            Command::None => {}
-            Command::SleepIn => {}
-            Command::CsrDir => {}
-            Command::Csrr => {}
-            Command::Mwrite => {}
-            Command::Mread => {}
+            Command::Csrw => store_word(&mut self.cursor.address, place, b),
+            _ => {}
         }
-        self
     }
 }

@@ -1,15 +1,13 @@
 -- What an accepted row has, and what a row leaves.
-use Rattle.std.proofs.Common.{◌≡◌, ℕ, suc, ◌+◌, ◌<◌, ◌≤◌, Bool, true, false, not, ◌&&◌, ◌||◌, T, List, length, sym, refl, ◌∙◌, subst, arith, ltb-false, ltb-true, lt-ltb, ne_eqb, eqb-true, leb-false}
+use Rattle.std.proofs.Common.{◌≡◌, ℕ, suc, ◌+◌, ◌<◌, ◌≤◌, Bool, true, false, not, ◌&&◌, ◌||◌, T, Ok, Err, List, length, sym, refl, ◌∙◌, subst, arith, ltb-false, ltb-true, lt-ltb, ne_eqb, eqb-true, leb-false}
 use borrow.Author.Tests.{lt-leb, eqb-false, not-false}
-use Rattle.registers.specs.declared.Answer.TheVariants.{Accepted, Refused}
-use Rattle.registers.specs.declared.Answer.{Answer}
 use Rattle.registers.specs.declared.Refusal.{Refusal}
 use Rattle.registers.specs.declared.Refusal.TheVariants.{MemorySize, FontSize}
 use Rattle.registers.specs.declared.Registers.{Registers}
 use Rattle.choice.proofs.Cases.{choose}
 use Rattle.choice.specs.Choice.{when◌then◌else◌, ◌<?◌, ◌≤?◌, ◌=?◌}
 use Rattle.registers.specs.Counts.{⁅◌⁆}
-use Rattle.registers.specs.Refusals.{number, reply}
+use Rattle.registers.specs.Refusals.{number}
 use Rattle.registers.specs.Sizes.{memory_size, font_size}
 use Rattle.registers.specs.Layout.{field, in_layout}
 use Rattle.registers.proofs.Numbers.{number_not_0}
@@ -142,23 +140,23 @@ wide_refused r memory_length font_length n h =
 -- the outcome of a row with a memory or a font of another size, of an accepted row, and of a refused one
 
 pub outcome_memory_size : (registers : Registers) (memory font : List ℕ) (frame n : ℕ) (out : List ℕ) → (length memory ≡ memory_size → ⊥)
-    → composed_outcome (Refused MemorySize) out ≡ row_outcome registers memory font frame n out
+    → composed_outcome (Err MemorySize) out ≡ row_outcome registers memory font frame n out
 unfolding row_outcome row_answer row_refusal
 outcome_memory_size registers memory font frame n out e = rw (ne_eqb (length memory) memory_size e)
 
 pub outcome_font_size : (registers : Registers) (memory font : List ℕ) (frame n : ℕ) (out : List ℕ) → length memory ≡ memory_size
-    → (length font ≡ font_size → ⊥) → composed_outcome (Refused FontSize) out ≡ row_outcome registers memory font frame n out
+    → (length font ≡ font_size → ⊥) → composed_outcome (Err FontSize) out ≡ row_outcome registers memory font frame n out
 unfolding row_outcome row_answer row_refusal
 outcome_font_size registers memory font frame n out m e = rw (m, ne_eqb (length font) font_size e)
 
 pub outcome_accepted : (registers : Registers) (memory font : List ℕ) (frame n : ℕ) (out : List ℕ) {drawn : List ℕ} → length memory ≡ memory_size → length font ≡ font_size
     → row_refusal (in_layout registers) memory_size font_size n (length out) ≡ 0 → drawn ≡ dots (in_layout registers) memory font frame n
-    → composed_outcome Accepted drawn ≡ row_outcome registers memory font frame n out
+    → composed_outcome (Ok tt) drawn ≡ row_outcome registers memory font frame n out
 unfolding row_outcome row_answer
 outcome_accepted registers memory font frame n out m f e d = rw (m, f, e, d)
 
-pub outcome_refused : (registers : Registers) (memory font : List ℕ) (frame n : ℕ) (out : List ℕ) (a : Answer) {refusal : Refusal} → length memory ≡ memory_size → length font ≡ font_size
-    → a ≡ Refused refusal → (reply a).refusal ≡ row_refusal (in_layout registers) memory_size font_size n (length out)
-    → composed_outcome (Refused refusal) out ≡ row_outcome registers memory font frame n out
+pub outcome_refused : (registers : Registers) (memory font : List ℕ) (frame n : ℕ) (out : List ℕ) (refusal : Refusal) → length memory ≡ memory_size → length font ≡ font_size
+    → number refusal ≡ row_refusal (in_layout registers) memory_size font_size n (length out)
+    → composed_outcome (Err refusal) out ≡ row_outcome registers memory font frame n out
 unfolding row_outcome row_answer
-outcome_refused registers memory font frame n out a {refusal} m f r e = rw (m, f, ← e, r, ne_eqb (number refusal) 0 (number_not_0 refusal))
+outcome_refused registers memory font frame n out refusal m f e = rw (m, f, ← e, ne_eqb (number refusal) 0 (number_not_0 refusal))

@@ -1,5 +1,5 @@
 -- The dots of a byte under the cursor are its dots inverted. It knows no code.
-use Rattle.std.proofs.Common.{◌≡◌, ℕ, ◌+◌, ◌-◌, ◌*◌, ◌/◌, ◌%◌, ◌<◌, Bool, true, false, not, ◌&&◌, T, List, length, get_or, set, sym, refl, ◌∙◌, subst, ⊎_elim, eq-zero-or-pos, arith, eqb→eq, length-set, get_or-set_other, get_or-set_same, le-ltb, lt-ltb, eq-eqb, ne_eqb, eqb-true}
+use Rattle.std.proofs.Common.{◌≡◌, ℕ, ◌+◌, ◌-◌, ◌*◌, ◌/◌, ◌%◌, ◌<◌, Bool, true, false, not, ◌&&◌, T, Option, Some, None, List, length, get_or, set, sym, refl, ◌∙◌, subst, ⊎_elim, eq-zero-or-pos, arith, eqb→eq, length-set, get_or-set_other, get_or-set_same, le-ltb, lt-ltb, eq-eqb, ne_eqb, eqb-true}
 use lib.Bits.{bit_xor, xor_zero_r}
 use borrow.Author.Tests.{eqb-false}
 use Rattle.registers.specs.declared.Registers.{Registers}
@@ -11,8 +11,9 @@ use Rattle.dots.specs.Tables.{table}
 use Rattle.dots.specs.Bytes.{bits_per_dot, dot_of}
 use Rattle.dots.proofs.Tables.{is_table}
 use Rattle.dots.proofs.MixedBytes.{dot_xor, dot_lt}
-use Rattle.row.specs.declared.LayerRow.{LayerRow}
-use Rattle.row.specs.declared.LayerRow.TheVariants.{Nothing, Block}
+use Rattle.row.specs.declared.Block.{Block}
+use Rattle.row.specs.declared.Block.TheVariants.{One, Two, Three, Four}
+use Rattle.row.specs.declared.BlockRow.{BlockRow}
 use Rattle.row.specs.Layers.{is_text, sad, three_layers}
 use Rattle.row.specs.Glyphs.{code_address}
 use Rattle.row.specs.Cursor.{has_cursor, inverted}
@@ -34,34 +35,28 @@ xor_bit true d h = below2 (λ d. bit_xor d 1 ≡ 1 - d) refl refl d h
 xor_bit false d h = xor_zero_r d
 
 -- text is shown at one bit a dot alone
-text_one_bit : (r : Registers) → Composable r → (block : ℕ) → is_text r.overlay block ≡ true → r.grey ≡ 0
+text_one_bit : (r : Registers) → Composable r → (block : Block) → is_text r.overlay block ≡ true → r.grey ≡ 0
 unfolding is_text
-text_one_bit r h block e = ⊎_elim (λ z. z) (λ pos. absurd (no_text pos)) (eq-zero-or-pos r.grey)
+text_one_bit r h block e = ⊎_elim (λ z. z) (λ pos. absurd (no_text block e (h.graphics (λ z. let q : r.grey ≡ 0 = z in omega arith)))) (eq-zero-or-pos r.grey)
   where
-    go : (x y : Bool) → (when x then not true else when y then not true else false) ≡ false
-    go true y = refl
-    go false true = refl
-    go false false = refl
-
-    no_text : 0 < r.grey → ⊥
-    no_text pos =
-        let g = h.graphics (λ z. let q : r.grey ≡ 0 = z in omega arith) in
-        let f : is_text r.overlay block ≡ false = rw (g.0, g.1) (go (block =? 1) (block =? 3)) in
-        let z : ◌≡◌ {A = Bool} true false = sym e ∙ f in
-        subst T z tt
+    no_text : (block : Block) → is_text r.overlay block ≡ true → (r.overlay.dm1 ≡ true) × (r.overlay.dm2 ≡ true) → ⊥
+    no_text One e g = subst T (sym (rw g.0 at e)) tt
+    no_text Two e g = subst T (sym e) tt
+    no_text Three e g = subst T (sym (rw g.1 at e)) tt
+    no_text Four e g = subst T (sym e) tt
 
 -- the cursor shows in text alone
-cursor_one_bit : (r : Registers) → Composable r → (frame : ℕ) (layer : LayerRow) (c : ℕ) → has_cursor r frame layer c ≡ true → r.grey ≡ 0
+cursor_one_bit : (r : Registers) → Composable r → (frame : ℕ) (layer : Option BlockRow) (c : ℕ) → has_cursor r frame layer c ≡ true → r.grey ≡ 0
 unfolding has_cursor
-cursor_one_bit r h frame Nothing c e = absurd (subst T (sym e) tt)
-cursor_one_bit r h frame (Block block q) c e = text_one_bit r h block (go (three_layers r.system.ws r.overlay) (is_text r.overlay block) _ _ _ e)
+cursor_one_bit r h frame None c e = absurd (subst T (sym e) tt)
+cursor_one_bit r h frame (Some b) c e = text_one_bit r h b.block (go (three_layers r.system.ws r.overlay) (is_text r.overlay b.block) _ _ _ e)
   where
     go : (three text on shape here : Bool) → (not three && text && on && shape && here) ≡ true → text ≡ true
     go false true on shape here e = refl
     go false false on shape here e = absurd (subst T (sym e) tt)
     go true text on shape here e = absurd (subst T (sym e) tt)
 
-pub cursor_dots : (r : Registers) (frame : ℕ) (layer : LayerRow) (c a j : ℕ) → Composable r → (r.grey ≡ 0 → j < 8)
+pub cursor_dots : (r : Registers) (frame : ℕ) (layer : Option BlockRow) (c a j : ℕ) → Composable r → (r.grey ≡ 0 → j < 8)
     → dot_of (bits_per_dot r.grey) (cursor_byte r frame layer c a) j
     ≡ inverted (has_cursor r frame layer c) ⁅ r.form.crx ⁆ j (dot_of (bits_per_dot r.grey) a j)
 unfolding cursor_byte inverted
@@ -79,27 +74,27 @@ cursor_dots r frame layer c a j h low = go (has_cursor r frame layer c) (cursor_
     go false e = refl
 
 -- the column whose code address is the cursor's
-pub column_at : (r : Registers) (block q c at : ℕ) → c < 65536 → at < 65536
-    → (at + line_address (sad r.blocks block) r.system.ap (q / ⁅ r.system.fy ⁆)) % 65536 ≡ r.cursor.address
-    → (code_address r block q c % 65536 =? r.cursor.address) ≡ (c =? at)
+pub column_at : (r : Registers) (b : BlockRow) (c at : ℕ) → c < 65536 → at < 65536
+    → (at + line_address (sad r.blocks b.block) r.system.ap (b.row / ⁅ r.system.fy ⁆)) % 65536 ≡ r.cursor.address
+    → (code_address r b c % 65536 =? r.cursor.address) ≡ (c =? at)
 unfolding code_address
-column_at r block q c at hc ha e = go (c =? at) refl
+column_at r b c at hc ha e = go (c =? at) refl
   where
     code : ℕ
-    code = sad r.blocks block + q / ⁅ r.system.fy ⁆ * r.system.ap + c
+    code = sad r.blocks b.block + b.row / ⁅ r.system.fy ⁆ * r.system.ap + c
 
-    go : (b : Bool) → (c =? at) ≡ b → (code % 65536 =? r.cursor.address) ≡ b
+    go : (t : Bool) → (c =? at) ≡ t → (code % 65536 =? r.cursor.address) ≡ t
     go true f = eq-eqb (code % 65536) r.cursor.address (omega (arith, eqb-true c at f, e))
     go false f = ne_eqb (code % 65536) r.cursor.address (λ x. let z : code % 65536 ≡ r.cursor.address = x in eqb-false c at f (omega (arith, e)))
 
 -- a line without the cursor
-pub no_cell : (r : Registers) (frame : ℕ) (layer : LayerRow) (line : List ℕ) → ((c : ℕ) → c < length line → has_cursor r frame layer c ≡ false)
+pub no_cell : (r : Registers) (frame : ℕ) (layer : Option BlockRow) (line : List ℕ) → ((c : ℕ) → c < length line → has_cursor r frame layer c ≡ false)
     → line ≡ table (length line) (λ c. cursor_byte r frame layer c (get_or line c 0))
 unfolding cursor_byte
 no_cell r frame layer line h = is_table (length line) _ line refl (λ k lt. rw (h k lt))
 
 -- a line with the cursor in one cell
-pub one_cell : (r : Registers) (frame : ℕ) (layer : LayerRow) (line : List ℕ) (at : ℕ) → at < length line → ((c : ℕ) → c < length line → has_cursor r frame layer c ≡ (c =? at))
+pub one_cell : (r : Registers) (frame : ℕ) (layer : Option BlockRow) (line : List ℕ) (at : ℕ) → at < length line → ((c : ℕ) → c < length line → has_cursor r frame layer c ≡ (c =? at))
     → set line at (bit_xor (get_or line at 0) (first_bits ⁅ r.form.crx ⁆)) ≡ table (length line) (λ c. cursor_byte r frame layer c (get_or line c 0))
 unfolding cursor_byte
 one_cell r frame layer line at h cells = is_table (length line) _ _ (length-set line at _) (λ k lt. go k (k =? at) refl (cells k lt))

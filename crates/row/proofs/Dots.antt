@@ -1,5 +1,5 @@
 -- The dots of the bytes that the stages leave are the dots that the definition gives. It knows no code.
-use Rattle.std.proofs.Common.{◌≡◌, ℕ, ◌+◌, ◌-◌, ◌*◌, ◌/◌, ◌%◌, ◌<◌, Bool, false, List, get_or, replicate, sym, ap, ◌∙◌, mod-lt, mod-eq_of_lt, div-lt_iff_lt-mul, arith, pow_pos}
+use Rattle.std.proofs.Common.{◌≡◌, ℕ, ◌+◌, ◌-◌, ◌*◌, ◌/◌, ◌%◌, ◌<◌, Bool, false, T, Option, None, Some, is_some, List, refl, subst, get_or, replicate, sym, ap, ◌∙◌, mod-lt, mod-eq_of_lt, div-lt_iff_lt-mul, arith, pow_pos}
 use native.Mathlib.Nat.{div-eq_of_lt}
 use lib.ListN.{length-replicate, get_or-replicate}
 use Rattle.registers.specs.declared.Registers.{Registers}
@@ -12,9 +12,8 @@ use Rattle.dots.specs.MixedBytes.{mix_byte, third_mix}
 use Rattle.dots.specs.Expanded.{expanded_dot}
 use Rattle.dots.proofs.Tables.{is_table, same_table, element}
 use Rattle.dots.proofs.MixedBytes.{mix_dots, mix_steps}
-use Rattle.row.specs.declared.LayerRow.{LayerRow}
-use Rattle.row.specs.declared.LayerRow.TheVariants.{Nothing}
-use Rattle.row.specs.Layers.{three_layers, layer1, layer2, layer3}
+use Rattle.row.specs.declared.BlockRow.{BlockRow}
+use Rattle.row.specs.Layers.{layer1, layer2, layer3}
 use Rattle.row.specs.Cursor.{has_cursor, inverted}
 use Rattle.row.specs.Dots.{per_column, shown_columns, width, layer_byte, column_dot, composed_dot, is_shown, unscrolled_dot, dot, dots}
 use Rattle.row.specs.Stages.{cursor_byte, ColumnDots, Composable}
@@ -25,16 +24,16 @@ dot_zero : (k j : ℕ) → dot_of k 0 j ≡ 0
 unfolding dot_of
 dot_zero k j = rw (div-eq_of_lt (pow_pos (8 - k * (j + 1)))) (mod-eq_of_lt (pow_pos k))
 
-no_third : (r : Registers) (n : ℕ) → three_layers r.system.ws r.overlay ≡ false → layer3 r n ≡ Nothing
-unfolding layer3
-no_third r n e = rw e
+no_row : (layer : Option BlockRow) → is_some layer ≡ false → layer ≡ None
+no_row None e = refl
+no_row (Some b) e = absurd (subst T e tt)
 
 module _ (r : Registers) (memory font : List ℕ) (frame n : ℕ) where
   -- the bytes of a layer
-  abbrev bytes : LayerRow → ℕ → ℕ
+  abbrev bytes : Option BlockRow → ℕ → ℕ
   bytes layer = layer_byte r memory font frame layer
 
-  abbrev layer_dot : LayerRow → ℕ → ℕ → ℕ
+  abbrev layer_dot : Option BlockRow → ℕ → ℕ → ℕ
   layer_dot layer c j = dot_of (bits_per_dot r.grey) (bytes layer c) j
 
   -- dot j of column c of layers 1 and 2, mixed
@@ -47,7 +46,7 @@ module _ (r : Registers) (memory font : List ℕ) (frame n : ℕ) where
   TwoDots line = (c j : ℕ) → c < ⁅ r.system.cr ⁆ → j < per_column r → dot_of (bits_per_dot r.grey) (get_or line c 0) j ≡ two_dot c j
 
   -- the bytes of a layer mixed into a line
-  pub mixed_in : (layer : LayerRow) (mx : ℕ) (line : List ℕ) {next mixed : List ℕ} {m k : ℕ} → k ≡ m → next ≡ table k (bytes layer)
+  pub mixed_in : (layer : Option BlockRow) (mx : ℕ) (line : List ℕ) {next mixed : List ℕ} {m k : ℕ} → k ≡ m → next ≡ table k (bytes layer)
       → mixed ≡ table m (λ c. mix_byte mx r.grey (get_or line c 0) (get_or next c 0)) → mixed ≡ table m (λ c. mix_byte mx r.grey (get_or line c 0) (bytes layer c))
   mixed_in layer mx line {next} {mixed} {m} q en e =
       e ∙ same_table m _ _ (λ c h. ap (λ (x : ℕ). mix_byte mx r.grey (get_or line c 0) x) (element _ en q c h))
@@ -68,9 +67,9 @@ module _ (r : Registers) (memory font : List ℕ) (frame n : ℕ) where
       (cursor_dots r frame (layer1 r n) c (bytes (layer1 r n) c) j h (λ z. let p = fit.one z in omega arith))
 
   -- without layer 3 that is all
-  pub two_layers_lem : (mixed : List ℕ) → three_layers r.system.ws r.overlay ≡ false → TwoDots mixed → ColumnDots r memory font frame n mixed
+  pub two_layers_lem : (mixed : List ℕ) → is_some (layer3 r n) ≡ false → TwoDots mixed → ColumnDots r memory font frame n mixed
   unfolding column_dot layer_byte
-  two_layers_lem mixed none two c j lc lj = two c j lc lj ∙ rw (no_third r n none, dot_zero (bits_per_dot r.grey) j)
+  two_layers_lem mixed none two c j lc lj = two c j lc lj ∙ rw (no_row (layer3 r n) none, dot_zero (bits_per_dot r.grey) j)
 
   -- the bytes of layer 3 mixed in
   pub three_layers_lem : (mixed : List ℕ) {all : List ℕ} {m : ℕ} → Composable r → m ≡ ⁅ r.system.cr ⁆

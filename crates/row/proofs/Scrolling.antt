@@ -1,12 +1,11 @@
 -- Request #101: a scrolled row is a part of the row with HDOT SCR 0. It knows no code.
-use Rattle.std.proofs.Common.{◌≡◌, ℕ, ◌+◌, ◌<◌, ◌≤◌, List, length, get_or, take, drop, sym, refl, ap, ◌∙◌, arith, length-drop, length-take-le, get_or-drop, get_or-take, eq-eqb}
+use Rattle.std.proofs.Common.{◌≡◌, ℕ, ◌+◌, ◌<◌, ◌≤◌, Option, Some, None, List, length, get_or, take, drop, sym, refl, ap, ◌∙◌, arith, length-drop, length-take-le, get_or-drop, get_or-take, eq-eqb}
 use Rattle.registers.specs.declared.Registers.{Registers}
 use Rattle.registers.specs.Layout.{in_layout}
 use Rattle.dots.proofs.Tables.{is_table, get_or-table, length_table}
 use Rattle.row.specs.Layers.{layer1, layer2, layer3}
-use Rattle.row.specs.Glyphs.{code_address, block_byte}
-use Rattle.row.specs.declared.LayerRow.{LayerRow}
-use Rattle.row.specs.declared.LayerRow.TheVariants.{Nothing, Block}
+use Rattle.row.specs.Glyphs.{glyph_row, glyph_byte, code_address, block_byte}
+use Rattle.row.specs.declared.BlockRow.{BlockRow}
 use Rattle.row.specs.Cursor.{has_cursor}
 use Rattle.row.specs.Dots.{per_column, shown_columns, width, layer_byte, column_dot, composed_dot, unscrolled_dot, dot, dots}
 use Rattle.row.specs.Stages.{Composable}
@@ -17,15 +16,15 @@ use Rattle.row.proofs.Accepting.{accepted, grey_code}
 
 -- no byte and no cursor goes by HDOT SCR
 module _ (r : Registers) (memory font : List ℕ) (frame : ℕ) where
-  same_byte : (layer : LayerRow) (c : ℕ) → layer_byte (unscrolled r) memory font frame layer c ≡ layer_byte r memory font frame layer c
-  unfolding layer_byte block_byte code_address
-  same_byte Nothing c = refl
-  same_byte (Block block q) c = refl
+  same_byte : (layer : Option BlockRow) (c : ℕ) → layer_byte (unscrolled r) memory font frame layer c ≡ layer_byte r memory font frame layer c
+  unfolding layer_byte block_byte code_address glyph_byte glyph_row
+  same_byte None c = refl
+  same_byte (Some b) c = refl
 
-  same-cursor : (layer : LayerRow) (c : ℕ) → has_cursor (unscrolled r) frame layer c ≡ has_cursor r frame layer c
+  same-cursor : (layer : Option BlockRow) (c : ℕ) → has_cursor (unscrolled r) frame layer c ≡ has_cursor r frame layer c
   unfolding has_cursor code_address
-  same-cursor Nothing c = refl
-  same-cursor (Block block q) c = refl
+  same-cursor None c = refl
+  same-cursor (Some b) c = refl
 
   same-dot : (n x : ℕ) → unscrolled_dot (unscrolled r) memory font frame n x ≡ unscrolled_dot r memory font frame n x
   unfolding unscrolled_dot composed_dot column_dot layer1 layer2 layer3

@@ -1,5 +1,5 @@
 -- Reference, 'Rows', 'Width' and 'Scrolling'; 01, 'Blocks and layers of a row', and request #101: the dots of a row.
-use Rattle.std.specs.Prelude.{ℕ, ◌+◌, ◌-◌, ◌*◌, ◌/◌, ◌%◌, Bool, not, ◌&&◌, List}
+use Rattle.std.specs.Prelude.{ℕ, ◌+◌, ◌-◌, ◌*◌, ◌/◌, ◌%◌, Bool, not, ◌&&◌, List, Option, Some, None}
 use Rattle.registers.specs.declared.Code.{Code}
 use Rattle.registers.specs.declared.Registers.{Registers}
 use Rattle.choice.specs.Choice.{when◌then◌else◌, ◌=?◌}
@@ -11,8 +11,7 @@ use Rattle.row.specs.Layers.{layer1, layer2, layer3}
 use Rattle.row.specs.Glyphs.{block_byte}
 use Rattle.row.specs.Flashing.{is_lit}
 use Rattle.row.specs.Cursor.{has_cursor, inverted}
-use Rattle.row.specs.declared.LayerRow.{LayerRow}
-use Rattle.row.specs.declared.LayerRow.TheVariants.{Nothing, Block}
+use Rattle.row.specs.declared.BlockRow.{BlockRow}
 
 -- the dots of a column: [FX], in grey 8 / bits a dot
 unfoldable pub dots_per_column : ℕ → Code → ℕ
@@ -30,14 +29,14 @@ unfoldable pub width : Registers → ℕ
 width r = shown_columns r.hdot r.system.cr * per_column r
 
 -- a layer's byte at column c; a dark block's is 0
-unfoldable pub layer_byte : Registers → List ℕ → List ℕ → ℕ → LayerRow → ℕ → ℕ
-layer_byte r memory font frame Nothing c = 0
-layer_byte r memory font frame (Block block q) c = when is_lit r.display.fp block frame then block_byte r memory font block q c else 0
+unfoldable pub layer_byte : Registers → List ℕ → List ℕ → ℕ → Option BlockRow → ℕ → ℕ
+layer_byte r memory font frame None c = 0
+layer_byte r memory font frame (Some b) c = when is_lit r.display.fp b.block frame then block_byte r memory font b c else 0
 
 -- dot j of column c of row n, with the cursor in layer 1
 unfoldable pub column_dot : Registers → List ℕ → List ℕ → ℕ → ℕ → ℕ → ℕ → ℕ
 column_dot r memory font frame n c j =
-    let layer_dot : LayerRow → ℕ = λ layer. dot_of (bits_per_dot r.grey) (layer_byte r memory font frame layer c) j in
+    let layer_dot : Option BlockRow → ℕ = λ layer. dot_of (bits_per_dot r.grey) (layer_byte r memory font frame layer c) j in
     mix r.overlay.mx
     (inverted (has_cursor r frame (layer1 r n) c) ⁅ r.form.crx ⁆ j (layer_dot (layer1 r n)))
     (layer_dot (layer2 r n))

@@ -4,6 +4,7 @@ use Rattle.registers.specs.declared.Registers.{Registers}
 use Rattle.choice.specs.Choice.{when◌then◌else◌, ◌<?◌}
 use Rattle.registers.specs.Counts.{⁅◌⁆}
 use Rattle.row.specs.Layers.{is_text, sad}
+use Rattle.row.specs.declared.BlockRow.{BlockRow}
 use Rattle.row.specs.declared.Glyph.{Glyph}
 use Rattle.row.specs.declared.Glyph.TheVariants.{Empty, Font, CgRam}
 
@@ -36,21 +37,21 @@ cg_ram_address m2 cgram code row = cgram + code * (when m2 then 16 else 8) + row
 unfoldable pub cg_ram_byte : Bool → ℕ → List ℕ → ℕ → ℕ → ℕ
 cg_ram_byte m2 cgram memory code row = when m2 || row <? 8 then fetch memory (cg_ram_address m2 cgram code row) else 0
 
-unfoldable pub glyph_row : Glyph → Bool → ℕ → List ℕ → List ℕ → ℕ → ℕ → ℕ
-glyph_row Empty m2 cgram memory font code row = 0
-glyph_row (Font index) m2 cgram memory font code row = font_byte font index row
-glyph_row CgRam m2 cgram memory font code row = cg_ram_byte m2 cgram memory code row
+unfoldable pub glyph_row : Registers → List ℕ → List ℕ → Glyph → ℕ → ℕ → ℕ
+glyph_row r memory font Empty code row = 0
+glyph_row r memory font (Font index) code row = font_byte font index row
+glyph_row r memory font CgRam code row = cg_ram_byte r.system.m2 r.cgram memory code row
 
-unfoldable pub glyph_byte : Bool → Bool → ℕ → List ℕ → List ℕ → ℕ → ℕ → ℕ
-glyph_byte m0 m2 cgram memory font code row = glyph_row (glyph_of m0 code) m2 cgram memory font code row
+unfoldable pub glyph_byte : Registers → List ℕ → List ℕ → ℕ → ℕ → ℕ
+glyph_byte r memory font code row = glyph_row r memory font (glyph_of r.system.m0 code) code row
 
 -- text has its code at SAD + (q div [FY]) x AP + c
-unfoldable pub code_address : Registers → ℕ → ℕ → ℕ → ℕ
-code_address r block q c = sad r.blocks block + q / ⁅ r.system.fy ⁆ * r.system.ap + c
+unfoldable pub code_address : Registers → BlockRow → ℕ → ℕ
+code_address r b c = sad r.blocks b.block + b.row / ⁅ r.system.fy ⁆ * r.system.ap + c
 
 -- graphics reads SAD + q x AP + c; text reads its code, and glyph row q mod [FY]
-unfoldable pub block_byte : Registers → List ℕ → List ℕ → ℕ → ℕ → ℕ → ℕ
-block_byte r memory font block q c =
-    when is_text r.overlay block
-    then glyph_byte r.system.m0 r.system.m2 r.cgram memory font (fetch memory (code_address r block q c)) (q % ⁅ r.system.fy ⁆)
-    else fetch memory (sad r.blocks block + q * r.system.ap + c)
+unfoldable pub block_byte : Registers → List ℕ → List ℕ → BlockRow → ℕ → ℕ
+block_byte r memory font b c =
+    when is_text r.overlay b.block
+    then glyph_byte r memory font (fetch memory (code_address r b c)) (b.row % ⁅ r.system.fy ⁆)
+    else fetch memory (sad r.blocks b.block + b.row * r.system.ap + c)

@@ -1,6 +1,6 @@
 -- Reference, 'Rows'; 01, 'Refusal numbers' and 'Blocks and layers of a row': what asking for a row gives.
-use Rattle.std.specs.Prelude.{ℕ, List, [], length}
-use Rattle.registers.specs.declared.Answer.{Answer}
+use Rattle.std.specs.Prelude.{ℕ, List, [], length, Result}
+use Rattle.registers.specs.declared.Refusal.{Refusal}
 use Rattle.registers.specs.declared.Registers.{Registers}
 use Rattle.choice.specs.Choice.{when◌then◌else◌, ◌=?◌}
 use Rattle.registers.specs.Counts.{count}
@@ -37,5 +37,5 @@ row_outcome registers memory font frame n buffer =
     record { refusal = a.refusal; buffer = when a.refusal =? 0 then a.dots else buffer }
 
 -- the outcome that the code's answer stands for, with the buffer as it leaves it
-abbrev pub composed_outcome : Answer → List ℕ → RowOutcome
+abbrev pub composed_outcome : Result Unit Refusal → List ℕ → RowOutcome
 composed_outcome a buffer = record { refusal = (reply a).refusal; buffer = buffer }

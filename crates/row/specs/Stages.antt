@@ -1,10 +1,9 @@
 -- What the stages of a row leave, whole bytes at a time. Laws in proofs/ give their dots.
-use Rattle.std.specs.Prelude.{◌≡◌, ℕ, ◌+◌, ◌*◌, ◌%◌, ◌<◌, ◌≤◌, true, List, [], ◌∷◌, length, ◌≢◌, bit_xor, slice_index}
+use Rattle.std.specs.Prelude.{◌≡◌, ℕ, ◌+◌, ◌*◌, ◌%◌, ◌<◌, ◌≤◌, true, List, [], ◌∷◌, ◌≢◌, bit_xor, slice_index, Option}
 use Rattle.registers.specs.declared.Registers.{Registers}
 use Rattle.choice.specs.Choice.{when◌then◌else◌, ◌<?◌}
 use Rattle.registers.specs.Counts.{⁅◌⁆}
-use Rattle.registers.specs.Sizes.{memory_size, font_size}
-use Rattle.row.specs.declared.LayerRow.{LayerRow}
+use Rattle.row.specs.declared.BlockRow.{BlockRow}
 use Rattle.dots.specs.Bytes.{bits_per_dot, dot_of}
 use Rattle.row.specs.Cursor.{has_cursor}
 use Rattle.row.specs.Dots.{per_column, column_dot}
@@ -18,7 +17,7 @@ unfoldable pub first_bits : ℕ → ℕ
 first_bits n = when n <? 8 then slice_index (0 ∷ 128 ∷ 192 ∷ 224 ∷ 240 ∷ 248 ∷ 252 ∷ 254 ∷ []) n else 255
 
 -- a byte of layer 1 with the cursor's bits inverted
-unfoldable pub cursor_byte : Registers → ℕ → LayerRow → ℕ → ℕ → ℕ
+unfoldable pub cursor_byte : Registers → ℕ → Option BlockRow → ℕ → ℕ → ℕ
 cursor_byte r frame layer c byte = when has_cursor r frame layer c then bit_xor byte (first_bits ⁅ r.form.crx ⁆) else byte
 
 -- the dots of a line of bytes are those of the columns of row n
@@ -26,11 +25,7 @@ abbrev pub ColumnDots : Registers → List ℕ → List ℕ → ℕ → ℕ → 
 ColumnDots r memory font frame n line =
     (c j : ℕ) → c < ⁅ r.system.cr ⁆ → j < per_column r → dot_of (bits_per_dot r.grey) (slice_index line c) j ≡ column_dot r memory font frame n c j
 
--- what refusals 1 and 8 leave: memory and font of their sizes
-abbrev pub Sized : List ℕ → List ℕ → Type 0
-Sized memory font = (length memory ≡ memory_size) × (length font ≡ font_size)
-
--- what the others leave, as far as a stage needs it: at most 8 dots a column, grey with DM = 11 alone, and scrolling at one bit a dot by less
+-- what the refusals of a row leave, as far as a stage needs it: at most 8 dots a column, grey with DM = 11 alone, and scrolling at one bit a dot by less
 -- than a column, with two columns or more
 pub record Composable (r : Registers) : Type 0 where
   pub code : r.grey < 3

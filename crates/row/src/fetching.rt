@@ -1,103 +1,77 @@
 // Stage 1 of a row: the bytes of a layer, one a column.
 ghost use Rattle.std.specs.Prelude.{◌≡◌, ◌+◌, ◌≤◌, length, slice_index};
-ghost use Rattle.registers.specs.Sizes.{font_size};
 ghost use Rattle.dots.specs.Tables.{table};
-ghost use Rattle.row.specs.Glyphs.{fetch, glyph_byte};
+ghost use Rattle.row.specs.Glyphs.{fetch, glyph_byte, block_byte};
 ghost use Rattle.row.specs.Dots.{layer_byte};
-ghost use Rattle.row.specs.Stages.{line_address, Sized};
+ghost use Rattle.row.specs.Stages.{line_address};
 
-use crate::LayerRow;
-use crate::flashing::is_lit;
-use crate::glyphs::{fetch, glyph_byte};
-use crate::layers::{is_text, sad};
+use crate::BlockRow;
+use crate::glyphs::fetch;
+use crate::scene::Scene;
 use dots::clear;
-use registers::Registers;
+use registers::MEMORY_SIZE;
 
 // The address of row q of a block, or of its text line q.
 pub fn line_address(start: u16, pitch: u16, q: u16) -> u16
     ensures { result ≡ line_address start pitch q }
 {
-    let down = (q as u32 * pitch as u32 % 65536) as u16;
-    std::num::wrapping_add_u16(start, down)
+    start.wrapping_add(q.wrapping_mul(pitch))
 }
 
 // The bytes from an address on: one copy, unless they reach past the end of memory or of the addresses.
-fn memory_bytes(memory: &[u8], start: u16, line: &mut [u8])
-    requires { (length memory.now ≤ 65536) × (length line.old ≤ 256) }
+fn memory_bytes(memory: &[u8; MEMORY_SIZE], start: u16, line: &mut [u8])
     ensures { line.new ≡ table (length line.old) (λ c. fetch memory.now (start + c)) }
 {
     let at = start as usize;
     let end = at + line.len();
     if end <= memory.len() {
         line.copy_from_slice(&memory[at..end]);
-        return;
-    }
-    let mut c: usize = 0;
-    while c < line.len() {
-        line[c] = fetch(memory, std::num::wrapping_add_u16(start, c as u16));
-        c += 1;
+    } else {
+        for (c, byte) in line.iter_mut().enumerate() {
+            *byte = fetch(memory, at + c);
+        }
     }
 }
 
-// A glyph row of each code, in the code's place.
-fn glyph_bytes(
-    m0: bool,
-    m2: bool,
-    cgram: u16,
-    memory: &[u8],
-    font: &[u8],
-    row: u16,
-    line: &mut [u8],
-)
-    requires { length font.now ≡ font_size }
-    ensures { line.new ≡ table (length line.old)
-        (λ c. glyph_byte m0 m2 cgram memory.now font.now (slice_index line.old c) row) }
-{
-    let mut c: usize = 0;
-    while c < line.len() {
-        line[c] = glyph_byte(m0, m2, cgram, memory, font, line[c], row);
-        c += 1;
+impl Scene<'_> {
+    // A glyph row of each code, in the code's place.
+    fn glyph_bytes(&self, row: u16, line: &mut [u8])
+        ensures { let s = self.now in
+            line.new ≡ table (length line.old) (λ c. glyph_byte s.registers s.memory.now s.font.now (slice_index line.old c) row) }
+    {
+        for byte in line.iter_mut() {
+            *byte = self.glyph_byte(*byte, row);
+        }
     }
-}
 
-// The bytes of a layer: zeros where it shows nothing, or FP darkens its block; else those of a row of text or graphics.
-#[tactic(auto, unfolding(crate::specs::Dots::layer_byte))]
-pub fn layer_bytes(
-    r: Registers,
-    memory: &[u8],
-    font: &[u8],
-    frame: u32,
-    layer: LayerRow,
-    line: &mut [u8],
-)
-    requires { Sized memory.now font.now × (length line.old ≤ 256) }
-    ensures { line.new
-        ≡ table (length line.old) (layer_byte r memory.now font.now frame layer) }
-{
-    match layer {
-        LayerRow::Nothing => clear(line),
-        LayerRow::Block(block, q) => {
-            if is_lit(r.display.fp, block, frame) {
-                let system = r.system;
-                let start = sad(r.blocks, block);
-                if is_text(r.overlay, block) {
-                    let height = system.fy.count();
-                    memory_bytes(memory, line_address(start, system.ap, q / height.0), line);
-                    glyph_bytes(
-                        system.m0,
-                        system.m2,
-                        r.cgram,
-                        memory,
-                        font,
-                        q % height.0,
-                        line,
-                    );
-                    return;
-                }
-                memory_bytes(memory, line_address(start, system.ap, q), line);
-                return;
-            }
-            clear(line);
+    // The bytes of a row of text or graphics.
+    fn block_bytes(&self, shown: BlockRow, line: &mut [u8])
+        ensures { let s = self.now in
+            line.new ≡ table (length line.old) (block_byte s.registers s.memory.now s.font.now shown) }
+    {
+        let r = &self.registers;
+        let start = shown.block.sad(r.blocks);
+        let pitch = r.system.ap;
+        if shown.block.is_text(r.overlay) {
+            let height = r.system.fy.count().0;
+            let text_line = shown.row / height;
+            memory_bytes(self.memory, line_address(start, pitch, text_line), line);
+            self.glyph_bytes(shown.row % height, line);
+        } else {
+            memory_bytes(self.memory, line_address(start, pitch, shown.row), line);
+        }
+    }
+
+    // The bytes of a layer: zeros where it shows nothing, or FP darkens its block.
+    #[tactic(auto, unfolding(crate::specs::Dots::layer_byte))]
+    pub fn layer_bytes(&self, layer: Option<BlockRow>, line: &mut [u8])
+        ensures { let s = self.now in
+            line.new ≡ table (length line.old) (layer_byte s.registers s.memory.now s.font.now s.frame layer) }
+    {
+        let fp = self.registers.display.fp;
+        match layer {
+            Some(shown) if shown.block.is_lit(fp, self.frame) => self.block_bytes(shown, line),
+            _ => clear(line),
         }
     }
 }

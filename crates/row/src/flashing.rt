@@ -1,6 +1,8 @@
 // Flashing, by the frame number.
 ghost use Rattle.std.specs.Prelude.{◌≡◌, ◌<◌, ◌≤◌};
-ghost use Rattle.row.specs.Flashing.{is_on, flashing, is_lit};
+ghost use Rattle.row.specs.Flashing.{is_on, flashing, flash_code, is_lit};
+
+use crate::Block;
 
 #[tactic(auto, unfolding(crate::specs::Flashing::is_on))]
 fn is_on(period: u32, frame: u32) -> bool
@@ -16,28 +18,31 @@ pub fn flashes(code: u8, period: u32, frame: u32) -> bool
     requires { (0 < period) × (period ≤ 64) }
     ensures { result ≡ flashing code period frame }
 {
-    if code == 0 {
-        return false;
+    match code {
+        0 => false,
+        1 => true,
+        2 => is_on(32, frame),
+        _ => is_on(period, frame),
     }
-    if code == 1 {
-        return true;
-    }
-    if code == 2 {
-        return is_on(32, frame);
-    }
-    is_on(period, frame)
 }
 
-// Whether FP shows a block.
-#[tactic(auto, unfolding(crate::specs::Flashing::is_lit))]
-pub fn is_lit(fp: u8, block: u8, frame: u32) -> bool
-    ensures { result ≡ is_lit fp block frame }
-{
-    if block == 1 {
-        return flashes(fp % 4, 4, frame);
+impl Block {
+    // Its code in FP.
+    fn flash_code(self, fp: u8) -> u8
+        ensures { result ≡ flash_code fp self }
+    {
+        match self {
+            Block::One => fp % 4,
+            Block::Two | Block::Four => fp / 4 % 4,
+            Block::Three => fp / 16 % 4,
+        }
     }
-    if block == 3 {
-        return flashes(fp / 16 % 4, 4, frame);
+
+    // Whether FP shows it.
+    #[tactic(auto, unfolding(crate::specs::Flashing::is_lit))]
+    pub fn is_lit(self, fp: u8, frame: u32) -> bool
+        ensures { result ≡ is_lit fp self frame }
+    {
+        flashes(self.flash_code(fp), 4, frame)
     }
-    flashes(fp / 4 % 4, 4, frame)
 }

@@ -1,6 +1,7 @@
 // Rows of dots, from the registers, display memory, a font and a frame number.
 #![tactic(auto)]
 
+mod blocks;
 mod cursor;
 mod fetching;
 mod flashing;
@@ -8,16 +9,26 @@ mod glyphs;
 mod layers;
 mod refusals;
 mod rows;
+mod scene;
 mod width;
 
 use registers::Count;
 pub use rows::{compose, frame_size};
 
-// What a layer shows on a row: nothing, or a row of a block, counted from the block's first.
+// The four screen blocks. Public, as the table of edges names them.
+#[derive(Clone, Copy, PartialEq, Eq)]
+pub enum Block {
+    One,
+    Two,
+    Three,
+    Four,
+}
+
+// What a layer shows on a row: a row of a block, counted from the block's first.
 #[derive(Clone, Copy)]
-pub(crate) enum LayerRow {
-    Nothing,
-    Block(u8, u16),
+pub(crate) struct BlockRow {
+    pub block: Block,
+    pub row: u16,
 }
 
 // Where a code's glyph comes from: nowhere, a glyph of the font, or CG RAM. Public, as the table of edges names it.

@@ -1,29 +1,26 @@
 // How wide a row is.
 ghost use Rattle.std.specs.Prelude.{◌≡◌, ◌*◌, ◌<◌, ◌≤◌};
 ghost use Rattle.registers.specs.Counts.{⁅◌⁆};
-ghost use Rattle.row.specs.Dots.{dots_per_column, shown_columns};
+ghost use Rattle.row.specs.Dots.{dots_per_column, shown_columns, width};
 
-use registers::Code;
+use registers::{Code, Registers};
 
 #[tactic(auto, unfolding(crate::specs::Dots::dots_per_column))]
 pub fn dots_per_column(grey: u8, fx: Code) -> u16
     requires { grey < 3 }
     ensures { result ≡ dots_per_column grey fx }
 {
-    if grey == 0 {
-        return fx.count().0;
+    match grey {
+        0 => fx.count().0,
+        1 => 4,
+        _ => 2,
     }
-    if grey == 1 {
-        return 4;
-    }
-    2
 }
 
 pub fn columns(cr: Code) -> usize
     ensures { (result ≡ ⁅ cr ⁆) × (result ≤ 256) }
 {
-    let count = cr.count();
-    count.0 as usize
+    cr.count().0 as usize
 }
 
 // The columns that a row shows.
@@ -32,15 +29,14 @@ pub fn shown_columns(hdot: u8, cr: Code) -> usize
     ensures { (result ≡ shown_columns hdot cr) × (result ≤ 256) }
 {
     let count = columns(cr);
-    if hdot == 0 {
-        return count;
-    }
-    count - 1
+    if hdot == 0 { count } else { count - 1 }
 }
 
 // How many dots they have.
-pub fn row_width(hdot: u8, cr: Code, per: u16) -> usize
-    ensures { (result ≡ shown_columns hdot cr * per) × (result ≤ 256 * per) }
+#[tactic(auto, unfolding(crate::specs::Dots::width))]
+pub fn row_width(r: &Registers) -> usize
+    requires { r.now.grey < 3 }
+    ensures { result ≡ width r.now }
 {
-    shown_columns(hdot, cr) * per as usize
+    shown_columns(r.hdot, r.system.cr) * dots_per_column(r.grey, r.system.fx) as usize
 }

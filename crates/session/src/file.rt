@@ -10,7 +10,7 @@ ghost use Rattle.session.specs.File.{progress, start_of, following, found_lines,
 use crate::printing::{flush, print_line};
 use crate::run::run_record;
 use crate::{Output, Session, Step};
-use busfile::Found;
+use busfile::{Found, Reader};
 use lines::Line;
 use model::Controller;
 
@@ -62,7 +62,8 @@ fn next_record(
     let at = step.at;
     let good = step.good;
     let s = step.session;
-    let found = busfile::found_at(file, at);
+    let reader = Reader::new(file, at);
+    let found = reader.found();
     if let Found::End = found {
         return Step {
             session: s,
@@ -84,7 +85,7 @@ fn next_record(
             more: false,
         };
     };
-    let payload = busfile::payload_at(file, r.start, r.end);
+    let payload = reader.payload(r);
     let kind = r.kind;
     Step {
         session: run_record(rt, s, memory, font, out, kind, payload, number),

@@ -3,4 +3,4 @@ use Rattle.model.proofs.Strides.{back}
 use Rattle.model.proofs.memory.fitting.Goals as goal
 
 pub returns : goal.returns
-returns c = back {step = c.wrapping_sub_u16.result} (omega arith) (omega arith) (omega arith) c.in_room-2.ensures
+returns c = back {step = c.wrapping_neg.result} (omega arith) (omega arith) (omega arith) c.in_room-2.ensures

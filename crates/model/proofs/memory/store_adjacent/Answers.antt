@@ -5,12 +5,12 @@ use Rattle.model.proofs.memory.store_adjacent.Goals as goal
 pub returns-then-memory-at : goal.returns-then-memory-at
 returns-then-memory-at c =
     let a = c.args in
-    none_stored 1 0 a.address a.memory.now a.bytes.now (λ h. c.if-memory-at.true)
+    none_stored 1 0 a.address a.memory.now a.bytes.now (λ h. omega arith)
 
 pub returns : goal.returns
 returns c =
     let a = c.args in
-    let n = c.smaller-n.result in
+    let n = c.min-n.result in
     let size : length (take n a.bytes.now) ≡ n = length-take-le _ _ (omega arith) in
-    rw (c.copy_from_slice.ensures.after, put_back a.memory.now (take n a.bytes.now) a.address n size (omega arith))
-    (rw zero-add at (adjacent 0 a.address n a.memory.now a.bytes.now c.requires c.smaller-n.ensures))
+    rw (c.copy_from_slice.ensures.after, c.from-at.ensures, put_back a.memory.now (take n a.bytes.now) a.address n size (omega arith))
+    (rw zero-add at (adjacent 0 a.address n a.memory.now a.bytes.now c.requires (rw c.from-at.ensures at c.min-n.ensures)))

@@ -1,13 +1,12 @@
-use Rattle.std.proofs.Common.{ℕ, ◌+◌, length, take, drop, ap, ◌∙◌, arith}
+use Rattle.std.proofs.Common.{ℕ, length, take, drop, ap, ◌∙◌, arith}
 use native.Mathlib.Nat.{add-sub_cancel_left}
 use Rattle.dots.proofs.InPlace.{none_replaced, one_more, all_replaced}
-use Rattle.row.specs.Glyphs.{fetch}
-use Rattle.row.proofs.Addresses.{fetch_mod, bytes_copied}
+use Rattle.row.proofs.Addresses.{bytes_copied}
 use Rattle.row.proofs.fetching.memory_bytes.Goals as goal
 
-pub returns-then-end-memory : goal.returns-then-end-memory
-returns-then-end-memory c =
-    bytes_copied c.args.memory.now c.args.line.now _ c.args.start c.if-end-memory.true c.requires.0
+pub returns-then-end-le32768 : goal.returns-then-end-le32768
+returns-then-end-le32768 c =
+    bytes_copied c.args.memory.now c.args.line.now _ c.args.start (omega arith) (omega arith)
     (c.copy_from_slice.ensures.after
     ∙ ap (λ (m : ℕ). take m (drop c.args.start c.args.memory.now)) (add-sub_cancel_left c.args.start (length c.args.line.now)))
 
@@ -15,11 +14,7 @@ pub loop-c-init : goal.loop-c-init
 loop-c-init c = none_replaced _ _
 
 pub loop-c-preserved : goal.loop-c-preserved
-loop-c-preserved c =
-    one_more _ _ _ _ _ c.loop-c.invariant (omega arith)
-    (c.fetch.ensures
-    ∙ ap (λ (x : ℕ). fetch c.args.memory.now x) c.wrapping_add_u16.ensures.value
-    ∙ fetch_mod c.args.memory.now (c.args.start + c.loop-c.c))
+loop-c-preserved c = one_more _ _ _ _ _ c.loop-c.invariant (omega arith) c.fetch.ensures
 
-pub returns : goal.returns
-returns c = all_replaced _ _ _ _ c.loop-c.invariant (omega arith)
+pub returns-after-loop-c : goal.returns-after-loop-c
+returns-after-loop-c c = all_replaced _ _ _ _ c.loop-c.invariant (omega arith)

@@ -1,10 +1,7 @@
-use Rattle.std.proofs.Common.{◌+◌, ◌-◌, length}
+use Rattle.std.proofs.Common.{◌+◌}
 use Rattle.dots.proofs.InPlace.{Replaced}
 use Rattle.row.specs.Glyphs.{fetch}
 use Rattle.row.proofs.fetching.memory_bytes.Given as goal
 
 abbrev pub invariant-loop-c : goal.invariant-loop-c
 invariant-loop-c l = Replaced (λ x. fetch l.memory (l.start + x)) l.initial.line l.line l.c
-
-abbrev pub decreases-loop-c : goal.decreases-loop-c
-decreases-loop-c l = length l.initial.line - l.c

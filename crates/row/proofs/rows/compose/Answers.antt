@@ -1,43 +1,44 @@
-use Rattle.std.proofs.Common.{◌≡◌, sym, ap, ◌∙◌}
-use Rattle.registers.specs.declared.Answer.{Answer}
-use Rattle.registers.specs.declared.Answer.TheVariants.{Accepted}
-use Rattle.registers.specs.Refusals.{reply}
+use Rattle.std.proofs.Common.{sym, ◌∙◌}
+use Rattle.std.proofs.lemmas.Result.{err_from_is_err_and}
 use Rattle.row.proofs.Accepting.{grey_code, accepted, outcome_memory_size, outcome_font_size, outcome_accepted, outcome_refused}
 use Rattle.row.proofs.rows.compose.Goals as goal
 
--- the answer is Accepted: so says the refusal
-no_refusal : (a : Answer) → a ≡ Accepted → (reply a).refusal ≡ 0
-no_refusal a e = ap (λ (b : Answer). (reply b).refusal) e
-
-pub returns-then-memory-ne-MEMORY_SIZE : goal.returns-then-memory-ne-MEMORY_SIZE
-returns-then-memory-ne-MEMORY_SIZE c =
+pub returns-in_default : goal.returns-in_default
+returns-in_default c =
     let a = c.args in
-    outcome_memory_size a.registers a.memory.now a.font.now a.frame a.n a.out.now c.if-memory-ne-MEMORY_SIZE.true
+    outcome_memory_size a.registers a.memory.now a.font.now a.frame a.n a.out.now c.in_default.ensures.1
 
-pub returns-then-font-ne-FONT_SIZE : goal.returns-then-font-ne-FONT_SIZE
-returns-then-font-ne-FONT_SIZE c =
+pub returns-in_default-try_from : goal.returns-in_default-try_from
+returns-in_default-try_from c =
     let a = c.args in
-    outcome_font_size a.registers a.memory.now a.font.now a.frame a.n a.out.now c.if-memory-ne-MEMORY_SIZE.false c.if-font-ne-FONT_SIZE.true
+    outcome_font_size a.registers a.memory.now a.font.now a.frame a.n a.out.now c.in-Ok.ensures.1.long c.in_default-try_from.ensures.1
 
-pub row_answer-answer-requires : goal.row_answer-answer-requires
-row_answer-answer-requires c = rw c.in_layout-r.ensures (grey_code c.args.registers)
+pub check_row-requires : goal.check_row-requires
+check_row-requires c = rw c.in_layout-registers.ensures (grey_code c.args.registers)
+
+pub returns-in_err-check_row : goal.returns-in_err-check_row
+returns-in_err-check_row c =
+    let a = c.args in
+    let p = err_from_is_err_and c.from_residual.result c.from_residual.ensures.1 in
+    rw (p.1, p.2)
+    (outcome_refused a.registers a.memory.now a.font.now a.frame a.n a.out.now c.in_err-check_row.field-0.0 c.in-Ok.ensures.1.long c.in-Ok-try_from.ensures.1.long
+    (rw (← c.in_layout-registers.ensures) c.in_err-check_row.ensures.result_value))
+
+pub invariant_of-draw : goal.invariant_of-draw
+invariant_of-draw c =
+    record {
+      composable = (accepted _ (rw c.in_layout-registers.ensures (grey_code c.args.registers)) _ _ _ _ (sym c.in_ok-check_row.ensures.result_value)).composable;
+    }
 
 pub draw-requires : goal.draw-requires
 draw-requires c =
-    let d =
-    accepted _ (rw c.in_layout-r.ensures (grey_code c.args.registers)) _ _ _ _
-    (sym c.row_answer-answer.ensures.result_value ∙ no_refusal c.row_answer-answer.result c.in-Accepted.is) in
-    (d.whole, (c.if-memory-ne-MEMORY_SIZE.false, c.if-font-ne-FONT_SIZE.false), d.composable)
+    (accepted _ (rw c.in_layout-registers.ensures (grey_code c.args.registers)) _ _ _ _ (sym c.in_ok-check_row.ensures.result_value)).whole
 
-pub returns-in-Accepted : goal.returns-in-Accepted
-returns-in-Accepted c =
+pub returns : goal.returns
+returns c =
     let a = c.args in
-    outcome_accepted a.registers a.memory.now a.font.now a.frame a.n a.out.now c.if-memory-ne-MEMORY_SIZE.false c.if-font-ne-FONT_SIZE.false
-    (rw (← c.in_layout-r.ensures) (sym c.row_answer-answer.ensures.result_value ∙ no_refusal c.row_answer-answer.result c.in-Accepted.is))
-    (c.draw.ensures ∙ rw c.in_layout-r.ensures)
-
-pub returns-in-Refused : goal.returns-in-Refused
-returns-in-Refused c =
-    let a = c.args in
-    outcome_refused a.registers a.memory.now a.font.now a.frame a.n a.out.now c.row_answer-answer.result
-    c.if-memory-ne-MEMORY_SIZE.false c.if-font-ne-FONT_SIZE.false c.in-Refused.is (rw (← c.in_layout-r.ensures) c.row_answer-answer.ensures.result_value)
+    let memory = c.in-Ok.ensures.1 in
+    let font = c.in-Ok-try_from.ensures.1 in
+    outcome_accepted a.registers a.memory.now a.font.now a.frame a.n a.out.now memory.long font.long
+    (rw (← c.in_layout-registers.ensures) (sym c.in_ok-check_row.ensures.result_value))
+    (c.draw.ensures ∙ rw (c.in_layout-registers.ensures, memory.same, font.same))

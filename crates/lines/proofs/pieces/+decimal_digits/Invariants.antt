@@ -1,4 +1,0 @@
-use Rattle.lines.proofs.pieces.+decimal_digits.Given as goal
-
-abbrev pub decreases-decimal_digits : goal.decreases-decimal_digits
-decreases-decimal_digits l = l.n

@@ -1,9 +1,0 @@
-use Rattle.std.proofs.Common.{sym, ◌∙◌}
-use Rattle.row.proofs.Dots.{row_when}
-use Rattle.row.proofs.rows.draw.Goals as goal
-
-pub returns-then-is_shown : goal.returns-then-is_shown
-returns-then-is_shown c = c.paint.ensures ∙ row_when _ _ _ _ _ (sym c.is_shown.ensures ∙ c.if-is_shown.true)
-
-pub returns : goal.returns
-returns c = c.clear.ensures ∙ rw c.requires.0 (row_when _ _ _ _ _ (sym c.is_shown.ensures ∙ c.if-is_shown.false))

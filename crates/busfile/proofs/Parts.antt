@@ -1,19 +1,15 @@
 -- Reading in parts. Bytes before a part move its places (`shifted`); bytes after it change nothing for a record that ends within it (`long`).
-use Prim.Native.Nat.{ℕ, ◌+◌, ◌-◌, ◌≤◌}
-use mathlib.Core.Bool.{Bool, true, false}
+use Prim.Native.Nat.{ℕ, ◌+◌, ◌≤◌}
 use mathlib.Core.List.{List, [], ◌++◌, append-nil}
 use mathlib.Core.Logic.{⊎_elim}
 use mathlib.Core.Path.{◌≡◌, refl, sym, ap, ◌∙◌}
-use native.Mathlib.Nat.{add_assoc}
 use native.Mathlib.Omega.{arith}
-use lib.ListN.{length, drop, length-append, length-drop, get_or-append}
-use lib.Seq.{drop-append-add, drop-append-le, take-append-le}
-use borrow.Author.Tests.{ltb-false, le-ltb}
-use Rattle.choice.specs.Choice.{when◌then◌else◌, ◌<?◌, ◌=?◌}
+use lib.ListN.{length, drop, length-append}
+use lib.Seq.{drop-append-add, drop-append-le}
+use Rattle.std.proofs.lemmas.Grind.{common_steps}
 use Rattle.busfile.specs.declared.Record as R
 use Rattle.std.specs.Prelude.{Option, Some, None}
 use Rattle.busfile.specs.declared.Kind.{Kind}
-use Rattle.busfile.specs.declared.Found.{Found}
 use Rattle.busfile.specs.declared.Found.TheVariants.{Record}
 use Rattle.busfile.specs.Records.{word_of, shape_of, body_of, record_at, part_of}
 use Rattle.busfile.specs.Parts.{further, longest_record, PartsSuffice}
@@ -21,58 +17,35 @@ use Rattle.busfile.proofs.Ends.{shape_at, header, body_ends}
 
 -- Bytes before
 
-further_if : (k : ℕ) (test : Bool) (x y : Found) → further k (when test then x else y) ≡ (when test then further k x else further k y)
-further_if k true x y = refl
-further_if k false x y = refl
-
 body_shifted : (shape : Option Kind) (k n at size : ℕ) → further k (body_of shape n at size) ≡ body_of shape (k + n) (k + at) size
 body_shifted None k n at size = refl
-body_shifted (Some kind) k n at size =
-    let left : k + n - (k + (at + 4)) ≡ n - (at + 4) = omega arith in
-    further_if k (n - (at + 4) <? size) _ _ ∙ rw (add_assoc k at 4, add_assoc k (at + 4) size, left)
+body_shifted (Some kind) k n at size = grind (arith, common_steps)
 
 shifted : (before l : List ℕ) (at : ℕ) → further (length before) (record_at l at) ≡ record_at (before ++ l) (length before + at)
 unfolding record_at
 shifted before l at =
-    let k : ℕ = length before in
-    let left : k + length l - (k + at) ≡ length l - at = omega arith in
     let kind = drop-append-add before l (at + 2) in
     let size = drop-append-add before l at in
-    further_if k (length l - at =? 0) _ _
-    ∙ rw (further_if k (length l - at <? 4), body_shifted (shape_at l at), length-append, left, add_assoc k at 2, kind, size)
+    let shape = body_shifted (shape_at l at) (length before) (length l) at (word_of (drop at l)) in
+    grind (arith, common_steps)
 
 -- the same for a payload
 part_shifted : (before l : List ℕ) (start end : ℕ) → part_of l start end ≡ part_of (before ++ l) (length before + start) (length before + end)
-part_shifted before l start end =
-    let e : length before + end - (length before + start) ≡ end - start = omega arith in
-    rw (e, drop-append-add before l start)
+part_shifted before l start end = grind (arith, common_steps, drop-append-add before l start)
 
 -- Bytes after
 
 word_same : (part after : List ℕ) (n : ℕ) → n + 2 ≤ length part → word_of (drop n part) ≡ word_of (drop n (part ++ after))
 unfolding word_of
-word_same part after n h =
-    let two : 2 ≤ length (drop n part) = rw length-drop (omega arith) in
-    let low = get_or-append (drop n part) after 0 0 (omega arith) in
-    let high = get_or-append (drop n part) after 0 1 (omega arith) in
-    rw (drop-append-le n part after (omega arith), low, high)
+word_same part after n h = rw (drop-append-le n part after (omega arith)) (grind (arith, common_steps))
 
 part_same : (part after : List ℕ) (start end : ℕ) → start ≤ end → end ≤ length part → part_of part start end ≡ part_of (part ++ after) start end
-part_same part after start end h room =
-    rw (drop-append-le start part after (omega arith), take-append-le (end - start) (drop start part) after (rw length-drop (omega arith)))
+part_same part after start end h room = grind (arith, common_steps)
 
 -- none is cut where the longest would not be
 body_same : (n m at kind size : ℕ) → at + longest_record ≤ n → body_of (shape_of kind size) n at size ≡ body_of (shape_of kind size) (n + m) at size
 unfolding shape_of
-body_same n m at kind size h = go (65532 <? size) refl
-  where
-    whole : (shape : Option Kind) → size ≤ 65532 → body_of shape n at size ≡ body_of shape (n + m) at size
-    whole None small = refl
-    whole (Some k) small = rw (le-ltb (n - (at + 4)) size (omega arith), le-ltb (n + m - (at + 4)) size (omega arith))
-
-    go : (over : Bool) → (65532 <? size) ≡ over → body_of (shape_of kind size) n at size ≡ body_of (shape_of kind size) (n + m) at size
-    go true e = rw e
-    go false e = whole (shape_of kind size) (ltb-false 65532 size e)
+body_same n m at kind size h = grind (arith, common_steps)
 
 -- the same record and payload with the bytes after the part
 abbrev Same : List ℕ → List ℕ → ℕ → Type 0

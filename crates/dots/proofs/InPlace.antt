@@ -1,13 +1,8 @@
 -- Loops that put f i in place of element i of a list, from the front on.
-use Prim.Native.Nat.{ℕ, zero-le, ◌+◌, ◌<◌, ◌≤◌}
-use mathlib.Core.List.{List}
-use mathlib.Core.Path.{◌≡◌, refl, ◌∙◌}
-use native.Mathlib.Omega.{arith}
-use lib.ListN.{length, get_or, set, length-set}
-use lib.Seq.{get_or-set_other}
-use borrow.Author.Count.{below_none}
+use Rattle.std.proofs.Common.{ℕ, zero-le, ◌+◌, ◌<◌, ◌≤◌, List, ◌≡◌, refl, ◌∙◌, arith, length, get_or, set, length-set, get_or-set_other, below_none}
+use Rattle.std.proofs.lemmas.List.Edits.{fill_by_more}
 use Rattle.dots.specs.Tables.{table}
-use Rattle.dots.proofs.Tables.{is_table, table_more}
+use Rattle.dots.proofs.Tables.{is_table}
 
 -- the first i elements of l₀ are replaced in l
 pub record Replaced (f : ℕ → ℕ) (l₀ l : List ℕ) (i : ℕ) : Type 0 where
@@ -24,7 +19,7 @@ one_more f l₀ l i v h lt e =
     record {
       within = omega (arith, h.same);
       same = length-set l i v ∙ h.same;
-      done = table_more f l i v lt e h.done;
+      done = rw e (fill_by_more f l i 0 lt h.done);
       rest = λ k le. get_or-set_other l i k v 0 (λ q. let z : k ≡ i = q in omega arith) ∙ h.rest k (omega arith);
     }
 

@@ -1,18 +1,14 @@
 -- The dots of mixed bytes are the dots mixed. It knows no code.
-use Prim.Native.Nat.{ℕ, zero, suc, ◌+◌, ◌-◌, ◌*◌, ◌/◌, ◌%◌, ◌^◌, ◌<◌}
-use mathlib.Core.Bool.{Bool, true, false}
-use mathlib.Core.Path.{◌≡◌, refl, sym, ap, ◌∙◌}
-use native.Mathlib.Nat.{mod-eq_of_lt, mod-lt, div-one}
-use native.Mathlib.Omega.{arith}
-use lib.Bits.{bit_and, bit_or, bit_xor, or_shr, or_mod, xor_shr, xor_mod, and_shr, and_mod, or_zero_r}
-use lib.Dec.{eqb→eq}
-use lib.Pow.{pow_pos}
-use borrow.Author.Tests.{ne_eqb, le-ltb}
+use Rattle.std.proofs.Common.{ℕ, zero, suc, ◌+◌, ◌-◌, ◌*◌, ◌/◌, ◌%◌, ◌^◌, ◌<◌, ◌≤◌, Bool, true, false, ◌≡◌, refl, sym, ap, ◌∙◌, subst, ⊎_elim, arith, bit_and, bit_or, bit_xor, mod-lt, pow_pos, pow-add, shr-shr, shl_exact, mul-suc, mul-le-mul_left, add-one, div-one, ne_eqb, le-ltb, eqb→eq}
+use lib.Arith.{digits_lt}
+use lib.Bits.{or_shr, or_mod, or_shifted, xor_shr, xor_mod, and_shr, and_mod, or_zero_r}
+use lib.Pow.{high, low}
 use Rattle.choice.specs.Choice.{when◌then◌else◌, ◌=?◌}
-use Rattle.choice.proofs.Below.{all_below, all_below_lem, below2, below4}
+use Rattle.choice.proofs.Below.{all_below, all_below_lem}
+use Rattle.choice.proofs.Cases.{lt_or_le}
 use Rattle.dots.specs.Mixing.{first_of, mix}
-use Rattle.dots.specs.Bytes.{bits_per_dot, dot_of}
-use Rattle.dots.specs.MixedBytes.{first_pairs, first_nibbles, first_byte, mix_byte, third_mix}
+use Rattle.dots.specs.Bytes.{bits_per_dot, dot_of, FillByte}
+use Rattle.dots.specs.MixedBytes.{first_dots, first_byte, mix_byte, third_mix}
 use Rattle.dots.specs.Expanded.{DotsFit}
 
 dot_or : (k a b j : ℕ) → dot_of k (bit_or a b) j ≡ bit_or (dot_of k a j) (dot_of k b j)
@@ -49,32 +45,63 @@ first_lt k a b ha hb = go (a =? 0) (b =? 0)
     go true false = hb
     go false y = ha
 
-first_mod : (k a b : ℕ) → 0 < k → first_of (a % k) (b % k) 0 % k ≡ first_of (a % k) (b % k) 0
-first_mod k a b h = mod-eq_of_lt (first_lt k (a % k) (b % k) (mod-lt a h) (mod-lt b h))
+first_dot_lt : (k n a b : ℕ) → first_of (dot_of k a n) (dot_of k b n) 0 < 2 ^ k
+first_dot_lt k n a b = first_lt (2 ^ k) (dot_of k a n) (dot_of k b n) (dot_lt k a n) (dot_lt k b n)
 
-dot_pairs : (a b j : ℕ) → j < 4 → dot_of 2 (first_pairs a b) j ≡ first_of (dot_of 2 a j) (dot_of 2 b j) 0
-unfolding dot_of first_pairs
-dot_pairs a b =
-    below4 (λ j. dot_of 2 (first_pairs a b) j ≡ first_of (dot_of 2 a j) (dot_of 2 b j) 0)
-    (omega (arith, first_mod 4 (a / 64) (b / 64) (omega arith)))
-    (omega (arith, first_mod 4 (a / 16) (b / 16) (omega arith)))
-    (omega (arith, first_mod 4 (a / 4) (b / 4) (omega arith)))
-    (simp div-one (omega (arith, first_mod 4 a b (omega arith))))
+pub first_dots_lt : (k n a b : ℕ) → first_dots k n a b < 2 ^ (k * n)
+first_dots_lt k zero a b = pow_pos (k * zero)
+first_dots_lt k (suc n) a b =
+    subst (λ (x : ℕ). first_dots k (suc n) a b < x) (sym (pow-add 2 (k * n) k) ∙ ap (λ (x : ℕ). 2 ^ x) (sym (mul-suc k n)))
+    (digits_lt (first_dots_lt k n a b) (first_dot_lt k n a b))
 
-dot_nibbles : (a b j : ℕ) → j < 2 → dot_of 4 (first_nibbles a b) j ≡ first_of (dot_of 4 a j) (dot_of 4 b j) 0
-unfolding dot_of first_nibbles
-dot_nibbles a b =
-    below2 (λ j. dot_of 4 (first_nibbles a b) j ≡ first_of (dot_of 4 a j) (dot_of 4 b j) 0)
-    (omega (arith, first_mod 16 (a / 16) (b / 16) (omega arith)))
-    (simp div-one (omega (arith, first_mod 16 a b (omega arith))))
+-- a dot's bits are the byte's
+dot_room : (k j : ℕ) → FillByte k → j < 8 / k → k * (j + 1) ≤ 8
+dot_room k j fill h = subst (λ (x : ℕ). k * (j + 1) ≤ x) fill.2 (mul-le-mul_left k (omega arith))
+
+-- a dot more, by a shift and an OR
+pub one_dot_more : (k j a b m r : ℕ) → FillByte k → j < 8 / k → m ≡ first_dots k j a b → r ≡ first_of (dot_of k a j) (dot_of k b j) 0
+    → bit_or (m * 2 ^ k % 2 ^ 8) r ≡ first_dots k (j + 1) a b
+one_dot_more k j a b m r fill h em er =
+    let room : k * j + k ≤ 8 = omega (arith, dot_room k j fill h, mul-suc k j, ap (λ (x : ℕ). k * x) (add-one j)) in
+    rw (em, er, shl_exact (k * j) k 8 (first_dots_lt k j a b) room, or_shifted (first_dots k j a b) k _ (first_dot_lt k j a b), add-one) refl
+
+-- with e bits behind it dot j is the first of dots j
+dot_before : (k n a b j e : ℕ) → j < n → k * (j + 1) + e ≡ k * n → first_dots k n a b / 2 ^ e % 2 ^ k ≡ first_of (dot_of k a j) (dot_of k b j) 0
+dot_before k zero a b j e h q = absurd (omega (arith, h))
+dot_before k (suc n) a b j e h q = ⊎_elim (earlier (λ e' g q'. dot_before k n a b j e' g q')) last (lt_or_le j n)
+  where
+    whole : ℕ
+    whole = first_dots k (suc n) a b
+
+    last : n ≤ j → whole / 2 ^ e % 2 ^ k ≡ first_of (dot_of k a j) (dot_of k b j) 0
+    last g =
+        let jn : j ≡ n = omega (arith, h) in
+        let none : e ≡ 0 = omega (arith, q, mul-suc k n, ap (λ (x : ℕ). k * (x + 1)) jn, ap (λ (x : ℕ). k * x) (add-one n)) in
+        ap (λ (x : ℕ). whole / 2 ^ x % 2 ^ k) none ∙ ap (λ (x : ℕ). x % 2 ^ k) (div-one whole)
+        ∙ low (first_dots k n a b) k (first_dot_lt k n a b) ∙ ap (λ (x : ℕ). first_of (dot_of k a x) (dot_of k b x) 0) (sym jn)
+
+    earlier : ((e' : ℕ) → j < n → k * (j + 1) + e' ≡ k * n → first_dots k n a b / 2 ^ e' % 2 ^ k ≡ first_of (dot_of k a j) (dot_of k b j) 0)
+        → j < n → whole / 2 ^ e % 2 ^ k ≡ first_of (dot_of k a j) (dot_of k b j) 0
+    earlier before g =
+        let room : k * (j + 1) ≤ k * n = mul-le-mul_left k (omega arith) in
+        let rest : e ≡ k + (e - k) = omega (arith, q, mul-suc k n, room) in
+        ap (λ (x : ℕ). whole / 2 ^ x % 2 ^ k) rest ∙ ap (λ (x : ℕ). x % 2 ^ k) (sym (shr-shr whole k (e - k)))
+        ∙ ap (λ (x : ℕ). x / 2 ^ (e - k) % 2 ^ k) (high (first_dots k n a b) k (first_dot_lt k n a b))
+        ∙ before (e - k) g (omega (arith, q, mul-suc k n, room))
+
+dot_first : (k n a b j : ℕ) → j < n → k * n ≡ 8 → dot_of k (first_dots k n a b) j ≡ first_of (dot_of k a j) (dot_of k b j) 0
+unfolding dot_of
+dot_first k n a b j h fill =
+    let room : k * (j + 1) ≤ k * n = mul-le-mul_left k (omega arith) in
+    dot_before k n a b j (8 - k * (j + 1)) h (omega (arith, room))
 
 -- dot j of the n of a column
 mix_first : (grey n a b j : ℕ) → DotsFit grey n → j < n
     → dot_of (bits_per_dot grey) (first_byte grey a b) j ≡ first_of (dot_of (bits_per_dot grey) a j) (dot_of (bits_per_dot grey) b j) 0
 unfolding first_byte
 mix_first zero n a b j h l = dot_or 1 a b j ∙ first_or (dot_of 1 a j) (dot_of 1 b j) (dot_lt 1 a j) (dot_lt 1 b j)
-mix_first (suc zero) n a b j h l = dot_pairs a b j (rw (h.two refl) at l)
-mix_first (suc (suc zero)) n a b j h l = dot_nibbles a b j (rw (h.four refl) at l)
+mix_first (suc zero) n a b j h l = dot_first 2 4 a b j (rw (h.two refl) at l) refl
+mix_first (suc (suc zero)) n a b j h l = dot_first 4 2 a b j (rw (h.four refl) at l) refl
 mix_first (suc (suc (suc g))) n a b j h l = absurd (let z = h.code in omega arith)
 
 -- two layers mixed, as if the third had no dot

@@ -1,10 +1,6 @@
 -- The dots that a line of bytes expands to.
-use Rattle.std.specs.Prelude.{ℕ, ◌*◌, ◌/◌, ◌%◌, ◌<◌, ◌≤◌, List, ◌≡◌, get_or}
+use Rattle.std.specs.Prelude.{ℕ, ◌/◌, ◌%◌, ◌<◌, ◌≤◌, List, ◌≡◌, get_or}
 use Rattle.dots.specs.Bytes.{dot_of}
-
--- four dots for each half of a byte: entry i is dot i mod 4 of the half i div 4
-unfoldable pub half_dot : ℕ → ℕ
-half_dot i = dot_of 1 (i / 4 * 16) (i % 4)
 
 -- dot x of a row of bytes
 unfoldable pub expanded_dot : ℕ → ℕ → List ℕ → ℕ → ℕ

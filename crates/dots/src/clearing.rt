@@ -6,9 +6,5 @@ ghost use Rattle.dots.specs.Tables.{table};
 pub fn clear(line: &mut [u8])
     ensures { line.new ≡ table (length line.old) (λ c. 0) }
 {
-    let mut i: usize = 0;
-    while i < line.len() {
-        line[i] = 0;
-        i += 1;
-    }
+    line.fill(0);
 }

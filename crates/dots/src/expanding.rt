@@ -1,106 +1,74 @@
 // Stage 5 of a row: bytes expanded to dots, one byte a dot.
-ghost use Rattle.std.specs.Prelude.{◌*◌, ◌≤◌, ◌<◌, ◌≡◌, length};
+ghost use Rattle.std.specs.Prelude.{◌+◌, ◌*◌, ◌/◌, ◌^◌, ◌≤◌, ◌<◌, ◌≡◌, length};
 ghost use Rattle.dots.specs.Tables.{table};
-ghost use Rattle.dots.specs.Bytes.{bits_per_dot, dot_of};
-ghost use Rattle.dots.specs.Expanded.{half_dot, expanded_dot, DotsFit};
+ghost use Rattle.dots.specs.Bytes.{bits_per_dot, dot_of, FillByte};
+ghost use Rattle.dots.specs.Expanded.{expanded_dot, DotsFit};
 
-// The first dots of a byte at one bit a dot.
-fn spread_bits(b: u8, out: &mut [u8])
-    requires { length out.old ≤ 8 }
-    ensures { out.new ≡ table (length out.old) (dot_of 1 b) }
+// A dot of a byte.
+#[tactic(auto, unfolding(crate::specs::Bytes::dot_of))]
+pub fn dot<const BITS: usize>(b: u8, j: usize) -> u8
+    requires { FillByte BITS × (j < 8 / BITS) }
+    ensures { result ≡ dot_of BITS b j }
 {
-    let mut j: usize = 0;
-    while j < out.len() {
-        out[j] = (b >> (7 - j)) % 2;
-        j += 1;
+    (b >> (8 - BITS * (j + 1))) % (1 << BITS)
+}
+
+// The first dots of a byte.
+fn spread<const BITS: usize>(b: u8, out: &mut [u8])
+    requires { FillByte BITS × (length out.old ≤ 8 / BITS) }
+    ensures { out.new ≡ table (length out.old) (dot_of BITS b) }
+{
+    for (j, place) in out.iter_mut().enumerate() {
+        *place = dot::<BITS>(b, j);
+    }
+}
+
+// The dots of all columns in grey.
+fn expand_grey<const BITS: usize>(line: &[u8], out: &mut [u8])
+    requires { FillByte BITS × (length out.old ≡ length line.now * (8 / BITS)) }
+    ensures { out.new ≡ table (length line.now * (8 / BITS)) (expanded_dot BITS (8 / BITS) line.now) }
+{
+    let per = 8 / BITS;
+    for (c, b) in line.iter().enumerate() {
+        spread::<BITS>(*b, &mut out[c * per..(c + 1) * per]);
     }
 }
 
 // The four dots of each half of a byte.
-const HALVES: [u8; 64] = [
-    0, 0, 0, 0, 0, 0, 0, 1, 0, 0, 1, 0, 0, 0, 1, 1, 0, 1, 0, 0, 0, 1, 0, 1, 0, 1, 1, 0, 0, 1, 1, 1,
-    1, 0, 0, 0, 1, 0, 0, 1, 1, 0, 1, 0, 1, 0, 1, 1, 1, 1, 0, 0, 1, 1, 0, 1, 1, 1, 1, 0, 1, 1, 1, 1,
+static HALVES: [[u8; 4]; 16] = [
+    [0, 0, 0, 0],
+    [0, 0, 0, 1],
+    [0, 0, 1, 0],
+    [0, 0, 1, 1],
+    [0, 1, 0, 0],
+    [0, 1, 0, 1],
+    [0, 1, 1, 0],
+    [0, 1, 1, 1],
+    [1, 0, 0, 0],
+    [1, 0, 0, 1],
+    [1, 0, 1, 0],
+    [1, 0, 1, 1],
+    [1, 1, 0, 0],
+    [1, 1, 0, 1],
+    [1, 1, 1, 0],
+    [1, 1, 1, 1],
 ];
 
-// The table above as a local: where it is named in a loop it is built anew for each use.
-#[tactic(auto, unfolding(crate::specs::Tables::table, crate::specs::Expanded::half_dot, crate::specs::Bytes::dot_of))]
-fn half_dots() -> [u8; 64]
-    ensures { result ≡ table 64 half_dot }
+#[tactic(auto, using(crate::proofs::Halves::half_dots))]
+fn half_dots(half: u8) -> [u8; 4]
+    requires { half < 16 }
+    ensures { result ≡ table 4 (dot_of 1 (half * 16)) }
 {
-    HALVES
-}
-
-// The dots of half a byte.
-#[tactic(auto, using(crate::proofs::Tables::length_table))]
-fn spread_half(halves: &[u8], half: u8, out: &mut [u8])
-    requires { (halves.now ≡ table 64 half_dot) × (half < 16) × (length out.old ≡ 4) }
-    ensures { out.new ≡ table 4 (dot_of 1 (half * 16)) }
-{
-    let at = half as usize * 4;
-    let first = halves[at];
-    let second = halves[at + 1];
-    let third = halves[at + 2];
-    let fourth = halves[at + 3];
-    out[0] = first;
-    out[1] = second;
-    out[2] = third;
-    out[3] = fourth;
+    HALVES[half as usize]
 }
 
 // All eight dots of a byte.
-fn spread_eight(halves: &[u8], b: u8, out: &mut [u8])
-    requires { (halves.now ≡ table 64 half_dot) × (length out.old ≡ 8) }
-    ensures { out.new ≡ table 8 (dot_of 1 b) }
+fn eight_dots(b: u8) -> [u8; 8]
+    ensures { result ≡ table 8 (dot_of 1 b) }
 {
-    spread_half(halves, b / 16, &mut out[..4]);
-    spread_half(halves, b % 16, &mut out[4..8]);
-}
-
-#[tactic(auto, unfolding(crate::specs::Tables::table, crate::specs::Bytes::dot_of))]
-fn spread_pairs(b: u8, out: &mut [u8])
-    requires { length out.old ≡ 4 }
-    ensures { out.new ≡ table 4 (dot_of 2 b) }
-{
-    out[0] = b / 64 % 4;
-    out[1] = b / 16 % 4;
-    out[2] = b / 4 % 4;
-    out[3] = b % 4;
-}
-
-#[tactic(auto, unfolding(crate::specs::Tables::table, crate::specs::Bytes::dot_of))]
-fn spread_nibbles(b: u8, out: &mut [u8])
-    requires { length out.old ≡ 2 }
-    ensures { out.new ≡ table 2 (dot_of 4 b) }
-{
-    out[0] = b / 16 % 16;
-    out[1] = b % 16;
-}
-
-// The dots of a byte in grey.
-fn spread_groups(grey: u8, b: u8, out: &mut [u8])
-    requires { (0 < grey) × DotsFit grey (length out.old) }
-    ensures { out.new ≡ table (length out.old) (dot_of (bits_per_dot grey) b) }
-{
-    if grey == 1 {
-        spread_pairs(b, out);
-        return;
-    }
-    spread_nibbles(b, out);
-}
-
-// The dots of all columns in grey. The callers' numbers make it a loop of its own for each code.
-fn expand_groups(grey: u8, per: usize, line: &[u8], out: &mut [u8])
-    requires { (0 < grey) × DotsFit grey per × (length out.old ≡ length line.now * per) }
-    ensures { out.new ≡ table (length line.now * per) (expanded_dot (bits_per_dot grey) per line.now) }
-{
-    let mut c: usize = 0;
-    let mut at: usize = 0;
-    while c < line.len() {
-        let end = at + per;
-        spread_groups(grey, line[c], &mut out[at..end]);
-        at = end;
-        c += 1;
-    }
+    let [d0, d1, d2, d3] = half_dots(b / 16);
+    let [d4, d5, d6, d7] = half_dots(b % 16);
+    [d0, d1, d2, d3, d4, d5, d6, d7]
 }
 
 // The dots of all columns at one bit a dot. Where there is room for it a byte gives all its eight dots, and the next column's go over
@@ -109,19 +77,13 @@ fn expand_bits(per: usize, line: &[u8], out: &mut [u8])
     requires { (per ≤ 8) × (length out.old ≡ length line.now * per) }
     ensures { out.new ≡ table (length line.now * per) (expanded_dot 1 per line.now) }
 {
-    let halves = half_dots();
-    let mut c: usize = 0;
-    let mut at: usize = 0;
-    while c < line.len() {
-        let next = at + per;
-        let end = at + 8;
-        if end <= out.len() {
-            spread_eight(&halves, line[c], &mut out[at..end]);
+    for (c, b) in line.iter().enumerate() {
+        let at = c * per;
+        if at + 8 <= out.len() {
+            out[at..at + 8].copy_from_slice(&eight_dots(*b));
         } else {
-            spread_bits(line[c], &mut out[at..next]);
+            spread::<1>(*b, &mut out[at..at + per]);
         }
-        at = next;
-        c += 1;
     }
 }
 
@@ -130,13 +92,9 @@ pub fn expand(grey: u8, per: usize, line: &[u8], out: &mut [u8])
     requires { DotsFit grey per × (length out.old ≡ length line.now * per) }
     ensures { out.new ≡ table (length line.now * per) (expanded_dot (bits_per_dot grey) per line.now) }
 {
-    if grey == 0 {
-        expand_bits(per, line, out);
-        return;
+    match grey {
+        0 => expand_bits(per, line, out),
+        1 => expand_grey::<2>(line, out),
+        _ => expand_grey::<4>(line, out),
     }
-    if grey == 1 {
-        expand_groups(1, 4, line, out);
-        return;
-    }
-    expand_groups(2, 2, line, out);
 }

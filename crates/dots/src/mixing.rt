@@ -1,8 +1,11 @@
 // Stage 3 of a row: the layers' bytes mixed. Each group of bits of a mixed byte is the mix of that group of the bytes.
-ghost use Rattle.std.specs.Prelude.{◌≡◌, length, get_or};
+ghost use Rattle.std.specs.Prelude.{◌≡◌, ℕ, ◌*◌, ◌/◌, ◌<◌, length, get_or};
 ghost use Rattle.dots.specs.Tables.{table};
 ghost use Rattle.dots.specs.Mixing.{first_of};
-ghost use Rattle.dots.specs.MixedBytes.{first_pairs, first_nibbles, mix_byte, third_mix};
+ghost use Rattle.dots.specs.Bytes.{FillByte};
+ghost use Rattle.dots.specs.MixedBytes.{first_dots, first_byte, mix_byte, third_mix};
+
+use crate::expanding::dot;
 
 // The first that is not 0.
 #[tactic(auto, unfolding(crate::specs::Mixing::first_of))]
@@ -12,58 +15,54 @@ fn first_of(a: u8, b: u8) -> u8
     if a == 0 { b } else { a }
 }
 
-// The first that is not 0 of each pair of bits. `% 4` changes nothing: by it each term is seen to fit, and so the sum.
-#[tactic(auto, unfolding(crate::specs::MixedBytes::first_pairs))]
-fn first_pairs(a: u8, b: u8) -> u8
-    ensures { result ≡ first_pairs a b }
+// Byte by byte and dot by dot, the first that is not 0.
+fn first_dots<const BITS: usize>(a: u8, b: u8) -> u8
+    requires { FillByte BITS }
+    ensures { result ≡ first_dots BITS (8 / BITS) a b }
 {
-    first_of(a / 64 % 4, b / 64 % 4) % 4 * 64
-        + first_of(a / 16 % 4, b / 16 % 4) % 4 * 16
-        + first_of(a / 4 % 4, b / 4 % 4) % 4 * 4
-        + first_of(a % 4, b % 4) % 4
+    let mut mixed = 0;
+    for j in 0..8 / BITS {
+        mixed = mixed << BITS | first_of(dot::<BITS>(a, j), dot::<BITS>(b, j));
+    }
+    mixed
 }
 
-// The first that is not 0 of each half of the bytes, `% 16` as `% 4` above.
-#[tactic(auto, unfolding(crate::specs::MixedBytes::first_nibbles))]
-fn first_nibbles(a: u8, b: u8) -> u8
-    ensures { result ≡ first_nibbles a b }
+// The bytes of a layer mixed into those before it: a loop of its own for each closure.
+fn mix_with<F: Fn(u8, u8) -> u8>(line: &mut [u8], layer: &[u8], mix: F)
+    requires callable { F.IsAlwaysCallable mix }
+    requires long { length layer.now ≡ length line.old }
+    ensures { (c : ℕ) → c < length line.old → F.post mix (get_or line.old c 0) (get_or layer.now c 0) (get_or line.new c 0) }
 {
-    first_of(a / 16 % 16, b / 16 % 16) % 16 * 16 + first_of(a % 16, b % 16) % 16
+    for (c, byte) in line.iter_mut().enumerate() {
+        *byte = mix(*byte, layer[c]);
+    }
 }
 
 // At one bit a dot the first that is not 0 is the OR.
-#[tactic(auto, unfolding(crate::specs::MixedBytes::mix_byte, crate::specs::MixedBytes::first_byte))]
-fn mix_byte(mx: u8, grey: u8, a: u8, b: u8) -> u8
-    ensures { result ≡ mix_byte mx grey a b }
+fn mix_first(grey: u8, line: &mut [u8], layer: &[u8])
+    requires { length layer.now ≡ length line.old }
+    ensures { line.new ≡ table (length line.old)
+        (λ c. first_byte grey (get_or line.old c 0) (get_or layer.now c 0)) }
 {
-    if mx == 0 {
-        return a | b;
+    match grey {
+        0 => mix_with(line, layer, |a, b| a | b),
+        1 => mix_with(line, layer, |a, b| first_dots::<2>(a, b)),
+        _ => mix_with(line, layer, |a, b| first_dots::<4>(a, b)),
     }
-    if mx == 1 {
-        return a ^ b;
-    }
-    if mx == 2 {
-        return a & b;
-    }
-    if grey == 0 {
-        return a | b;
-    }
-    if grey == 1 {
-        return first_pairs(a, b);
-    }
-    first_nibbles(a, b)
 }
 
-// The bytes of a layer mixed into those before it. MX and the grey code stay, so that the compiler makes a loop for each case.
+// The bytes of a layer mixed into those before it.
+#[tactic(auto, unfolding(crate::specs::MixedBytes::mix_byte))]
 pub fn mix_bytes(mx: u8, grey: u8, line: &mut [u8], layer: &[u8])
     requires { length layer.now ≡ length line.old }
     ensures { line.new ≡ table (length line.old)
         (λ c. mix_byte mx grey (get_or line.old c 0) (get_or layer.now c 0)) }
 {
-    let mut i: usize = 0;
-    while i < line.len() {
-        line[i] = mix_byte(mx, grey, line[i], layer[i]);
-        i += 1;
+    match mx {
+        0 => mix_with(line, layer, |a, b| a | b),
+        1 => mix_with(line, layer, |a, b| a ^ b),
+        2 => mix_with(line, layer, |a, b| a & b),
+        _ => mix_first(grey, line, layer),
     }
 }
 

@@ -13,7 +13,7 @@ fn scrolled_byte(per: usize, n: usize, a: u8, b: u8) -> u8
     requires { (n < per) × (per ≤ 8) }
     ensures { result ≡ scrolled_byte per n a b }
 {
-    let pair = (a >> (8 - per)) as u16 * 256 + b as u16;
+    let pair = u16::from_be_bytes([a >> (8 - per), b]);
     ((pair >> (per - n)) % 256) as u8
 }
 
@@ -26,13 +26,11 @@ fn scroll(per: usize, n: usize, line: &mut [u8])
     if n == 0 {
         return;
     }
-    let mut i: usize = 0;
-    while i + 1 < line.len() {
-        line[i] = scrolled_byte(per, n, line[i], line[i + 1]);
-        i += 1;
+    for i in 1..line.len() {
+        line[i - 1] = scrolled_byte(per, n, line[i - 1], line[i]);
     }
-    if i < line.len() {
-        line[i] = scrolled_byte(per, n, line[i], 0);
+    if let Some(last) = line.last_mut() {
+        *last = scrolled_byte(per, n, *last, 0);
     }
 }
 

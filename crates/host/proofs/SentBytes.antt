@@ -1,9 +1,13 @@
 -- Records that are sent byte by byte.
-use Rattle.std.proofs.Common.{◌≡◌, ℕ, zero, suc, ◌+◌, ◌<◌, ◌≤◌, true, List, [], ◌∷◌, ◌++◌, map, length, get_or, take, drop, set, replicate, sym, refl, ap, ◌∙◌, zero-le, lt_of_le_of_lt, zero-add, add-one, arith, length-drop, length-take-le, get_or-drop, get_or-take, take-suc, take-suc-set, ext_get_or, take-add, ltb-true, eqb-true}
+use Rattle.std.proofs.Common.{◌≡◌, ℕ, zero, suc, ◌+◌, ◌<◌, ◌≤◌, Bool, true, false, Result, Ok, Err, is_err, List, [], ◌∷◌, ◌++◌, map, length, get_or, take, drop, set, replicate, sym, refl, ap, ◌∙◌, zero-le, lt_of_le_of_lt, zero-add, add-one, arith, length-drop, length-take-le, get_or-drop, get_or-take, take-suc, take-suc-set, ext_get_or, take-add, ltb-true, eqb-true}
+use Rattle.std.specs.Int.{from_bool}
+use Rattle.std.proofs.Math.Bool.{and-false}
 use Rattle.std.proofs.lemmas.List.{map-append, length-map, length-replicate, get_or-replicate}
 use Rattle.choice.specs.Choice.{◌<?◌, ◌=?◌}
 use Rattle.choice.proofs.Cases.{choose, both_true}
-use Rattle.registers.specs.Refusals.{Reply, accepted}
+use Rattle.registers.specs.declared.Refusal.{Refusal}
+use Rattle.registers.specs.Refusals.{Reply, number, accepted, reply}
+use Rattle.registers.proofs.Numbers.{number_not_0}
 use Rattle.model.specs.declared.Controller.{Controller}
 use Rattle.model.specs.Machine.{Machine, Outcome, machine}
 use Rattle.model.specs.Bus.{command_write, data_write}
@@ -11,8 +15,9 @@ use Rattle.model.specs.Calls.{BusCall, write, call, bus_calls, after, outcomes}
 use Rattle.model.specs.Refresh.{All}
 use Rattle.model.specs.WriteRun.{run_length, RunOutcome, run_outcome}
 use Rattle.model.proofs.WriteRuns.{run_within, run_accepted}
-use Rattle.host.specs.Sending.{numbers, refusal_count, refusals, send_outcome, nothing_sent, is_sendable}
-use Rattle.host.specs.Saved.{is_saved}
+use Rattle.host.specs.Sending.{numbers, refusal_count, refusals, send_outcome, sent_outcome, nothing_sent, fits, is_sendable, send_returned, send_saved, after_send}
+use Rattle.host.specs.Saved.{is_saved, controller_of, saved_bytes}
+use Rattle.host.specs.Calls.{returned}
 
 -- Lists of calls, one behind the other
 
@@ -34,6 +39,14 @@ calls-append (x ∷ xs) ys h = rw (map-append write xs ys)
 
 pub one_refusal : (n : ℕ) → refusal_count n ≤ 1
 one_refusal n = choose (λ (k : ℕ). k ≤ 1) (n =? 0) 0 1 (λ h. zero-le) (λ h. omega arith)
+
+-- a call is counted where its answer is a refusal
+count_of : (a : Result Unit Refusal) → from_bool (is_err a) ≡ refusal_count (reply a).refusal
+count_of (Ok tt) = refl
+count_of (Err r) = choose (λ (k : ℕ). 1 ≡ k) (number r =? 0) 0 1 (λ h. absurd (number_not_0 r (eqb-true _ _ h))) (λ h. refl)
+
+pub counted : (a : Result Unit Refusal) {is : Bool} {n r : ℕ} → is ≡ is_err a → r ≡ from_bool is → n ≡ (reply a).refusal → r ≡ refusal_count n
+counted a e count number = rw (count, e, number) (count_of a)
 
 refusals_within : (ns : List ℕ) → refusals ns ≤ length ns
 refusals_within [] = zero-le
@@ -125,17 +138,34 @@ module _ {m₀ : Machine} {bytes : List ℕ} {i refused : ℕ} {m : Machine} {an
 
 -- Records sent to a saved controller
 
-pub sendable : (s bytes answers : List ℕ) → is_sendable s bytes answers ≡ true
-    → (is_saved s ≡ true) × (0 < length bytes) × (length bytes < nothing_sent) × (length answers ≡ length bytes)
-unfolding is_sendable
-sendable s bytes answers e =
-    let t = both_true _ (is_saved s) e in
-    let u = both_true _ (length bytes <? nothing_sent) t.0 in
+pub fitting : (bytes answers : List ℕ) → fits bytes answers ≡ true → (0 < length bytes) × (length bytes < nothing_sent) × (length answers ≡ length bytes)
+fitting bytes answers e =
+    let u = both_true _ (length bytes <? nothing_sent) e in
     let v = both_true (length answers =? length bytes) (0 <? length bytes) u.0 in
-    (t.1, ltb-true _ _ v.1, ltb-true _ _ u.1, eqb-true _ _ v.0)
+    (ltb-true _ _ v.1, ltb-true _ _ u.1, eqb-true _ _ v.0)
+
+-- on the controller that was read, answered and saved
+pub record_saved : (s memory bytes answers : List ℕ) {k k' : Controller} {s' memory' answers' : List ℕ} {n : ℕ}
+    → fits bytes answers ≡ true → is_saved s ≡ true → k ≡ controller_of s → sent_outcome k' n memory' answers' ≡ send_outcome (machine k memory) bytes
+    → s' ≡ saved_bytes k' → send_returned (returned n s' memory') answers' ≡ after_send s memory bytes answers
+unfolding is_sendable
+record_saved s memory bytes answers f is e o w = rw (w, f, is) (ap send_saved o ∙ rw e)
+
+module _ (s memory bytes answers : List ℕ) where
+  abbrev Unsent : Type 0
+  Unsent = send_returned (returned nothing_sent s memory) answers ≡ after_send s memory bytes answers
+
+  pub unfit_unsent : fits bytes answers ≡ false → Unsent
+  unfolding is_sendable
+  unfit_unsent e = rw e
+
+  pub unread_unsent : is_saved s ≡ false → Unsent
+  unfolding is_sendable
+  unread_unsent e = rw (e, and-false (fits bytes answers))
 
 -- the answer of a record that is sent is a count below the one that says that nothing is
 pub never_a_count : (s bytes answers : List ℕ) (m : Machine) → is_sendable s bytes answers ≡ true → (send_outcome m bytes).refused < nothing_sent
+unfolding is_sendable
 never_a_count s bytes answers m e =
     let few : refusals (numbers m (bus_calls bytes)) ≤ length bytes = rw (← calls-length bytes, ← numbers-length m (bus_calls bytes)) (refusals_within (numbers m (bus_calls bytes))) in
-    lt_of_le_of_lt few (sendable s bytes answers e).2
+    lt_of_le_of_lt few (fitting bytes answers (both_true _ (is_saved s) e).0).1

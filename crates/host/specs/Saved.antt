@@ -1,6 +1,7 @@
 -- Reference, 'The library': a controller as 48 bytes, words low byte first, a flag 0 or 1.
-use Rattle.std.specs.Prelude.{ℕ, ◌+◌, ◌*◌, ◌/◌, ◌%◌, ◌<◌, Bool, true, ◌&&◌, List, [], ◌∷◌, ◌≡◌, length, get_or}
+use Rattle.std.specs.Prelude.{ℕ, ◌+◌, ◌*◌, ◌/◌, ◌%◌, ◌<◌, Bool, true, ◌&&◌, Option, None, Some, List, [], ◌∷◌, ◌≡◌, length, get_or}
 use Rattle.choice.specs.Choice.{when◌then◌else◌, ◌<?◌, ◌=?◌}
+use Rattle.registers.specs.declared.Command.{Command}
 use Rattle.registers.specs.declared.Direction.{Direction}
 use Rattle.registers.specs.declared.Direction.TheVariants.{Right, Left, Up, Down}
 use Rattle.registers.specs.declared.Code.{Code}
@@ -80,10 +81,18 @@ registers_of s =
 unfoldable pub controller_of : List ℕ → Controller
 controller_of s = record { registers = registers_of s; pending = record { command = command_of (byte_at s 2); place = byte_at s 3 } }
 
+-- the controller that bytes are a saved form of, where they are one
+abbrev pub saved_controller : List ℕ → Option Controller
+saved_controller s = when is_saved s then Some (controller_of s) else None
+
 -- Saving. A pending command is the first code of its row of the command table, 0 where there is none
 
 abbrev pub flag : Bool → ℕ
 flag b = when b then 1 else 0
+
+abbrev pub pending_code : Option Command → ℕ
+pending_code None = 0
+pending_code (Some command) = code command
 
 abbrev pub low : ℕ → ℕ
 low w = w % 256
@@ -103,7 +112,7 @@ saved_bytes c =
     let s = r.system in
     let b = r.blocks in
     -- 0: format, asleep, pending command, its place
-    1 ∷ flag r.asleep ∷ code c.pending.command ∷ c.pending.place
+    1 ∷ flag r.asleep ∷ pending_code c.pending.command ∷ c.pending.place
     -- 4: IV, W/S, M2, M0, WF
     ∷ flag s.iv ∷ flag s.ws ∷ flag s.m2 ∷ flag s.m0 ∷ flag s.wf
     -- 9: FX, FY, C/R, TC/R, L/F
@@ -143,7 +152,7 @@ reserved_places = 43 ∷ 44 ∷ 45 ∷ 46 ∷ 47 ∷ []
 pub record InLayout (s : List ℕ) : Type 0 where
   pub saved : is_saved s ≡ true
   pub flags : All (λ i. byte_at s i < 2) flag_places
-  pub pending : code (command_of (byte_at s 2)) ≡ byte_at s 2
+  pub pending : pending_code (command_of (byte_at s 2)) ≡ byte_at s 2
   pub direction : byte_at s 42 < 4
   pub reserved : All (λ i. byte_at s i ≡ 0) reserved_places
 

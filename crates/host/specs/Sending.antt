@@ -3,7 +3,7 @@ use Rattle.std.specs.Prelude.{ℕ, ◌+◌, Bool, ◌&&◌, List, [], ◌∷◌,
 use Rattle.choice.specs.Choice.{when◌then◌else◌, ◌<?◌, ◌=?◌}
 use Rattle.model.specs.Machine.{Machine, machine}
 use Rattle.model.specs.Calls.{BusCall, bus_calls, after, outcomes}
-use Rattle.host.specs.declared.Sent.{Sent}
+use Rattle.model.specs.declared.Controller.{Controller}
 use Rattle.host.specs.Saved.{is_saved, controller_of}
 use Rattle.host.specs.Calls.{Returned, returned, saving}
 
@@ -31,17 +31,21 @@ answered m ns = record { machine = m; refused = refusals ns; answers = ns }
 abbrev pub send_outcome : Machine → List ℕ → SendOutcome
 send_outcome m bytes = answered (after m (bus_calls bytes)) (numbers m (bus_calls bytes))
 
--- the outcome that the code's answer stands for, with memory and answers as it leaves them
-abbrev pub sent_outcome : Sent → List ℕ → List ℕ → SendOutcome
-sent_outcome r memory answers = record { machine = machine r.controller memory; refused = r.refused; answers = answers }
+-- the outcome that the code's answer stands for, with controller, memory and answers as it leaves them
+abbrev pub sent_outcome : Controller → ℕ → List ℕ → List ℕ → SendOutcome
+sent_outcome c refused memory answers = record { machine = machine c memory; refused = refused; answers = answers }
 
 -- the answer where nothing is sent
 abbrev pub nothing_sent : ℕ
 nothing_sent = 0xFFFFFFFF
 
 -- one byte or more, and an answer for each; and so few that the count of refused bytes is never the answer above
+abbrev pub fits : List ℕ → List ℕ → Bool
+fits bytes answers = length answers =? length bytes && 0 <? length bytes && length bytes <? nothing_sent
+
+-- to a saved controller
 unfoldable pub is_sendable : List ℕ → List ℕ → List ℕ → Bool
-is_sendable s bytes answers = length answers =? length bytes && 0 <? length bytes && length bytes <? nothing_sent && is_saved s
+is_sendable s bytes answers = fits bytes answers && is_saved s
 
 pub record SendReturned : Type 0 where
   pub returned : Returned

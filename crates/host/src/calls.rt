@@ -6,25 +6,25 @@ ghost use Rattle.model.specs.Calls.{command, write, read};
 ghost use Rattle.host.specs.Calls.{returned, answer_of, after_reset, after_call, after_row, row_returned, frame_size_returned};
 
 use crate::NO_CONTROLLER;
-use crate::saved::{is_saved, read, read_registers, write};
+use crate::saved::{read, write};
 use model::Controller;
-use registers::{Answer, ReadAnswer};
+use registers::Refusal;
 
-pub fn number(a: Answer) -> u8
-    ensures { result ≡ (reply a).refusal }
+pub fn number(answer: Result<(), Refusal>) -> u8
+    ensures { result ≡ (reply answer).refusal }
 {
-    match a {
-        Answer::Accepted => 0,
-        Answer::Refused(r) => r.number(),
+    match answer {
+        Ok(()) => 0,
+        Err(refusal) => refusal.into(),
     }
 }
 
-fn read_number(a: ReadAnswer) -> u32
-    ensures { result ≡ answer_of (read_reply a) }
+fn read_number(answer: Result<u8, Refusal>) -> u32
+    ensures { result ≡ answer_of (read_reply answer) }
 {
-    match a {
-        ReadAnswer::Value(v) => 256 * v as u32,
-        ReadAnswer::Refused(r) => r.number() as u32,
+    match answer {
+        Ok(value) => 256 * u32::from(value),
+        Err(refusal) => u32::from(u8::from(refusal)),
     }
 }
 
@@ -35,60 +35,53 @@ pub extern "C" fn granivolche_reset(controller: &mut [u8]) -> u32
     if controller.len() != 48 {
         return NO_CONTROLLER;
     }
-    write(Controller::reset(), controller);
+    write(&Controller::reset(), controller);
     0
 }
 
 #[unsafe(no_mangle)]
-#[tactic(auto, using(crate::proofs::SavedBytes::saved_length, crate::proofs::Outcomes::call_saved, crate::proofs::Outcomes::number_alone))]
+#[tactic(auto, using(crate::proofs::Outcomes::read_length, crate::proofs::Outcomes::call_unread, crate::proofs::Outcomes::call_saved, crate::proofs::Outcomes::number_alone))]
 pub extern "C" fn granivolche_command_write(controller: &mut [u8], byte: u8) -> u32
     ensures { (memory : List ℕ) → returned result controller.new memory
         ≡ after_call controller.old memory (command byte) }
 {
-    if is_saved(controller) {
-        let c = read(controller);
-        let w = c.command_write(byte);
-        write(w.controller, controller);
-        let a = w.answer;
-        return number(a) as u32;
-    }
-    NO_CONTROLLER
+    let Some(mut c) = read(controller) else {
+        return NO_CONTROLLER;
+    };
+    let answer = c.command_write(byte);
+    write(&c, controller);
+    u32::from(number(answer))
 }
 
 #[unsafe(no_mangle)]
-#[tactic(auto, using(crate::proofs::SavedBytes::saved_length, crate::proofs::Outcomes::call_saved, crate::proofs::Outcomes::number_alone))]
+#[tactic(auto, using(crate::proofs::Outcomes::read_length, crate::proofs::Outcomes::call_unread, crate::proofs::Outcomes::call_saved, crate::proofs::Outcomes::number_alone))]
 pub extern "C" fn granivolche_data_write(controller: &mut [u8], memory: &mut [u8], byte: u8) -> u32
     ensures { returned result controller.new memory.new
         ≡ after_call controller.old memory.old (write byte) }
 {
-    if is_saved(controller) {
-        let c = read(controller);
-        let w = c.data_write(memory, byte);
-        write(w.controller, controller);
-        let a = w.answer;
-        return number(a) as u32;
-    }
-    NO_CONTROLLER
+    let Some(mut c) = read(controller) else {
+        return NO_CONTROLLER;
+    };
+    let answer = c.data_write(memory, byte);
+    write(&c, controller);
+    u32::from(number(answer))
 }
 
 #[unsafe(no_mangle)]
-#[tactic(auto, using(crate::proofs::SavedBytes::saved_length, crate::proofs::Outcomes::call_saved))]
+#[tactic(auto, using(crate::proofs::Outcomes::read_length, crate::proofs::Outcomes::call_unread, crate::proofs::Outcomes::call_saved))]
 pub extern "C" fn granivolche_data_read(controller: &mut [u8], memory: &[u8]) -> u32
     ensures { returned result controller.new memory.now
         ≡ after_call controller.old memory.now read }
 {
-    if is_saved(controller) {
-        let c = read(controller);
-        let w = c.data_read(memory);
-        write(w.controller, controller);
-        let a = w.answer;
-        return read_number(a);
-    }
-    NO_CONTROLLER
+    let Some(mut c) = read(controller) else {
+        return NO_CONTROLLER;
+    };
+    let answer = c.data_read(memory);
+    write(&c, controller);
+    read_number(answer)
 }
 
 #[unsafe(no_mangle)]
-#[tactic(auto, using(crate::proofs::SavedBytes::saved_length), unfolding(crate::specs::Saved::controller_of))]
 pub extern "C" fn granivolche_row(
     controller: &[u8],
     memory: &[u8],
@@ -100,24 +93,19 @@ pub extern "C" fn granivolche_row(
     ensures { row_returned result dots.new
         ≡ after_row controller.now memory.now font.now frame row dots.old }
 {
-    if is_saved(controller) {
-        let r = read_registers(controller);
-        let a = row::compose(r, memory, font, frame, row, dots);
-        return number(a) as u32;
-    }
-    NO_CONTROLLER
+    let Some(c) = read(controller) else {
+        return NO_CONTROLLER;
+    };
+    u32::from(number(c.row(memory, font, frame, row, dots)))
 }
 
 #[unsafe(no_mangle)]
-#[tactic(auto, using(crate::proofs::SavedBytes::saved_length))]
 pub extern "C" fn granivolche_frame_size(controller: &[u8]) -> u32
     ensures { result ≡ frame_size_returned controller.now }
 {
-    if is_saved(controller) {
-        let c = read(controller);
-        let size = row::frame_size(c.registers);
-        let rows = size.rows;
-        return size.width as u32 + 65536 * rows.0 as u32;
-    }
-    0
+    let Some(c) = read(controller) else {
+        return 0;
+    };
+    let size = row::frame_size(c.registers);
+    u32::from(size.width) + 65536 * u32::from(size.rows.0)
 }

@@ -5,16 +5,7 @@ mod calls;
 mod saved;
 mod sending;
 
-use model::Controller;
-
 // The answer where bytes are no saved controller, of another length or another format. No refusal has this number.
 const NO_CONTROLLER: u32 = 255;
 // The answer where nothing is sent. It is no count of refused bytes, as so many are not sent.
 const NOTHING_SENT: u32 = 0xFFFFFFFF;
-
-// What the calls of a record leave, and how many of them are refused.
-#[derive(Clone, Copy)]
-struct Sent {
-    controller: Controller,
-    refused: u32,
-}

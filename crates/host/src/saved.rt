@@ -1,37 +1,22 @@
 // Saved controllers: the 48 bytes read and written.
-ghost use Rattle.std.specs.Prelude.{◌+◌, ◌*◌, ◌≡◌, length};
-ghost use Rattle.host.specs.Saved.{is_saved, direction_numbered, system_of, blocks_of, registers_of, controller_of, direction_number, saved_bytes};
+ghost use Rattle.std.specs.Prelude.{◌≡◌, [], ◌∷◌, length};
+ghost use Rattle.host.specs.Saved.{saved_controller, direction_numbered, system_of, blocks_of, registers_of, flag, low, high, pending_code, direction_number, saved_bytes};
 
 use model::{Controller, Pending};
 use registers::{
     Blocks, Code, Command, Cursor, CursorForm, Direction, Display, Overlay, Registers, System,
 };
 
-// Whether bytes are a saved controller.
-#[tactic(auto, unfolding(crate::specs::Saved::is_saved))]
-pub fn is_saved(s: &[u8]) -> bool
-    ensures { result ≡ is_saved s.now }
-{
-    if s.len() != 48 {
-        return false;
-    }
-    s[0] == 1
-}
-
-fn word(low: u8, high: u8) -> u16
-    ensures { result ≡ low + 256 * high }
-{
-    low as u16 + 256 * high as u16
-}
-
-#[tactic(auto, unfolding(crate::specs::Saved::direction_numbered))]
+// A direction above 3 is read as 0.
+#[tactic(auto, unfolding(crate::specs::Saved::direction_numbered, registers::specs::Parameters::direction_of))]
 fn direction(n: u8) -> Direction
     ensures { result ≡ direction_numbered n }
 {
-    if n < 4 {
-        Direction::of(0x4C + n)
-    } else {
-        Direction::Right
+    match n {
+        1 => Direction::Left,
+        2 => Direction::Up,
+        3 => Direction::Down,
+        _ => Direction::Right,
     }
 }
 
@@ -49,7 +34,7 @@ fn system(s: &[u8; 48]) -> System
         cr: Code(s[11]),
         tcr: Code(s[12]),
         lf: Code(s[13]),
-        ap: word(s[14], s[15]),
+        ap: u16::from_le_bytes([s[14], s[15]]),
     }
 }
 
@@ -57,12 +42,12 @@ fn blocks(s: &[u8; 48]) -> Blocks
     ensures { result ≡ blocks_of s.now }
 {
     Blocks {
-        sad1: word(s[19], s[20]),
+        sad1: u16::from_le_bytes([s[19], s[20]]),
         sl1: Code(s[21]),
-        sad2: word(s[22], s[23]),
+        sad2: u16::from_le_bytes([s[22], s[23]]),
         sl2: Code(s[24]),
-        sad3: word(s[25], s[26]),
-        sad4: word(s[27], s[28]),
+        sad3: u16::from_le_bytes([s[25], s[26]]),
+        sad4: u16::from_le_bytes([s[27], s[28]]),
     }
 }
 
@@ -88,112 +73,120 @@ fn registers(s: &[u8; 48]) -> Registers
             dm1: s[34] == 1,
             mx: s[35],
         },
-        cgram: word(s[36], s[37]),
+        cgram: u16::from_le_bytes([s[36], s[37]]),
         hdot: s[38],
         grey: s[39],
         cursor: Cursor {
-            address: word(s[40], s[41]),
+            address: u16::from_le_bytes([s[40], s[41]]),
             direction: direction(s[42]),
         },
         asleep: s[1] == 1,
     }
 }
 
-// The registers of 48 bytes. Only the call for a row uses this, so that it is inlined and the registers are not stored first.
-pub fn read_registers(s: &[u8]) -> Registers
-    requires { length s.now ≡ 48 }
-    ensures { result ≡ registers_of s.now }
+// The controller that bytes are a saved form of, where they are one.
+#[tactic(auto, unfolding(crate::specs::Saved::is_saved, crate::specs::Saved::controller_of))]
+pub fn read(bytes: &[u8]) -> Option<Controller>
+    ensures { result ≡ saved_controller bytes.now }
 {
-    let mut c = [0u8; 48];
-    c.copy_from_slice(s);
-    registers(&c)
-}
-
-// The controller of 48 bytes, whatever they are.
-#[tactic(auto, unfolding(crate::specs::Saved::controller_of))]
-pub fn read(s: &[u8]) -> Controller
-    requires { length s.now ≡ 48 }
-    ensures { result ≡ controller_of s.now }
-{
-    let mut c = [0u8; 48];
-    c.copy_from_slice(s);
-    Controller {
-        registers: registers(&c),
+    let s = <&[u8; 48]>::try_from(bytes).ok()?;
+    if s[0] != 1 {
+        return None;
+    }
+    Some(Controller {
+        registers: registers(s),
         pending: Pending {
-            command: Command::of(c[2]),
-            place: c[3],
+            command: Command::try_from(s[2]).ok(),
+            place: s[3],
         },
-    }
+    })
 }
 
-fn direction_number(d: Direction) -> u8
-    ensures { result ≡ direction_number d }
+fn flag(b: bool) -> u8
+    ensures { result ≡ flag b }
 {
-    match d {
-        Direction::Right => 0,
-        Direction::Left => 1,
-        Direction::Up => 2,
-        Direction::Down => 3,
-    }
+    u8::from(b)
 }
 
-fn saved(c: Controller) -> [u8; 48]
-    ensures { result ≡ saved_bytes c }
+// The low and the high byte of a word.
+fn word(w: u16) -> [u8; 2]
+    ensures { result ≡ low w ∷ high w ∷ [] }
 {
-    let r = c.registers;
-    let s = r.system;
-    let d = r.display;
-    let b = r.blocks;
-    let f = r.form;
-    let o = r.overlay;
-    let cursor = r.cursor;
-    let pending = c.pending;
-    let command = pending.command;
-    let direction = cursor.direction;
+    w.to_le_bytes()
+}
+
+fn pending_code(command: Option<Command>) -> u8
+    ensures { result ≡ pending_code command }
+{
+    command.map_or(0, u8::from)
+}
+
+fn direction_number(direction: Direction) -> u8
+    ensures { result ≡ direction_number direction }
+{
+    direction as u8
+}
+
+fn saved(c: &Controller) -> [u8; 48]
+    ensures { result ≡ saved_bytes c.now }
+{
+    let r = &c.registers;
+    let s = &r.system;
+    let d = &r.display;
+    let b = &r.blocks;
+    let f = &r.form;
+    let o = &r.overlay;
+    let ap = word(s.ap);
+    let sad1 = word(b.sad1);
+    let sad2 = word(b.sad2);
+    let sad3 = word(b.sad3);
+    let sad4 = word(b.sad4);
+    let cgram = word(r.cgram);
+    let address = word(r.cursor.address);
     [
         1,
-        r.asleep as u8,
-        command.code(),
-        pending.place,
-        s.iv as u8,
-        s.ws as u8,
-        s.m2 as u8,
-        s.m0 as u8,
-        s.wf as u8,
+        flag(r.asleep),
+        pending_code(c.pending.command),
+        c.pending.place,
+        flag(s.iv),
+        flag(s.ws),
+        flag(s.m2),
+        flag(s.m0),
+        flag(s.wf),
         s.fx.0,
         s.fy.0,
         s.cr.0,
         s.tcr.0,
         s.lf.0,
-        (s.ap % 256) as u8,
-        (s.ap / 256) as u8,
-        d.on as u8,
+        ap[0],
+        ap[1],
+        flag(d.on),
         d.fp,
         d.fc,
-        (b.sad1 % 256) as u8,
-        (b.sad1 / 256) as u8,
+        sad1[0],
+        sad1[1],
         b.sl1.0,
-        (b.sad2 % 256) as u8,
-        (b.sad2 / 256) as u8,
+        sad2[0],
+        sad2[1],
         b.sl2.0,
-        (b.sad3 % 256) as u8,
-        (b.sad3 / 256) as u8,
-        (b.sad4 % 256) as u8,
-        (b.sad4 / 256) as u8,
+        sad3[0],
+        sad3[1],
+        sad4[0],
+        sad4[1],
         f.crx.0,
-        f.cm as u8,
+        flag(f.cm),
         f.cry.0,
-        o.ov as u8,
-        o.dm2 as u8,
-        o.dm1 as u8,
+        flag(o.ov),
+        flag(o.dm2),
+        flag(o.dm1),
         o.mx,
-        (r.cgram % 256) as u8,
-        (r.cgram / 256) as u8,
+        cgram[0],
+        cgram[1],
         r.hdot,
         r.grey,
-        (cursor.address % 256) as u8,
-        (cursor.address / 256) as u8,
-        direction_number(direction),
+        address[0],
+        address[1],
+        direction_number(r.cursor.direction),
         0,
         0,
         0,
@@ -203,10 +196,9 @@ fn saved(c: Controller) -> [u8; 48]
 }
 
 // A controller into 48 bytes.
-pub fn write(c: Controller, out: &mut [u8])
+pub fn write(c: &Controller, out: &mut [u8])
     requires { length out.old ≡ 48 }
-    ensures { out.new ≡ saved_bytes c }
+    ensures { out.new ≡ saved_bytes c.now }
 {
-    let s = saved(c);
-    out.copy_from_slice(&s);
+    out.copy_from_slice(&saved(c));
 }

@@ -1,10 +1,9 @@
-// The lines that the program prints. Each is put whole behind the used bytes of a buffer, and the answer is how many are used
-// then; one that does not fit is left out whole.
+// The lines that the program prints. Each is put whole behind those that wait in a buffer; one that does not fit is left out whole.
 #![tactic(auto)]
 
 mod text;
 
-ghost use Rattle.std.specs.Prelude.{◌≡◌};
+ghost use Rattle.std.specs.Prelude.{◌≡◌, ◌-◌, length, take};
 ghost use Rattle.lines.specs.Lines.{line_text, row_line, appended, used_after};
 
 use text::hex_digit;
@@ -24,32 +23,65 @@ pub enum Line {
     End(u64),
 }
 
-pub fn append_line(buffer: &mut [u8], used: usize, line: Line) -> usize
-    ensures value { result ≡ used_after buffer.old used (line_text line) }
-    ensures buffer_after { buffer.new ≡ appended buffer.old used (line_text line) }
-{
-    let text = line.text();
-    let end = used.saturating_add(text.len());
-    if buffer.len() < end {
-        return used;
-    }
-    buffer[used..end].copy_from_slice(text.as_bytes());
-    end
+// Lines that wait in a lent buffer, whose first bytes they use.
+#[derive(Drop)]
+pub struct Lines<'a> {
+    pub buffer: &'a mut [u8],
+    pub used: usize,
 }
 
-// A row, one hex digit a dot.
-#[tactic(auto, using(crate::proofs::Rows::row_steps))]
-pub fn append_row(buffer: &mut [u8], used: usize, dots: &[u8]) -> usize
-    ensures value { result ≡ used_after buffer.old used (row_line dots.now) }
-    ensures buffer_after { buffer.new ≡ appended buffer.old used (row_line dots.now) }
-{
-    let end = used.saturating_add(dots.len());
-    if buffer.len() <= end {
-        return used;
+impl<'a> Lines<'a> {
+    pub fn new(buffer: &'a mut [u8]) -> Lines<'a>
+        ensures used { result.used ≡ 0 }
+        ensures bytes { result.buffer.now ≡ buffer.old }
+        ensures same_buffer { result.buffer.ghost_name ≡ buffer.entry.ghost_name }
+    {
+        Lines { buffer, used: 0 }
     }
-    for (i, &dot) in dots.iter().enumerate() {
-        buffer[used + i] = hex_digit(dot);
+
+    // The lines that wait.
+    pub fn waiting(&self) -> &[u8]
+        ensures { result.now ≡ take self.now.used self.now.buffer.now }
+    {
+        self.buffer.get(..self.used).unwrap_or(self.buffer)
     }
-    buffer[end] = b'\n';
-    end + 1
+
+    // How many more bytes there is room for.
+    pub fn room(&self) -> usize
+        ensures { result ≡ length self.now.buffer.now - self.now.used }
+    {
+        self.buffer.len().saturating_sub(self.used)
+    }
+
+    pub fn append_line(&mut self, line: Line)
+        ensures used { self.new.used ≡ used_after self.old.buffer.now self.old.used (line_text line) }
+        ensures buffer { self.new.buffer.now ≡ appended self.old.buffer.now self.old.used (line_text line) }
+        ensures same_buffer { self.new.buffer.ghost_name ≡ self.old.buffer.ghost_name }
+    {
+        let text = line.text();
+        let end = self.used.saturating_add(text.len());
+        if self.buffer.len() < end {
+            return;
+        }
+        self.buffer[self.used..end].copy_from_slice(text.as_bytes());
+        self.used = end;
+    }
+
+    // A row, one hex digit a dot.
+    #[tactic(auto, using(crate::proofs::Rows::row_steps))]
+    pub fn append_row(&mut self, dots: &[u8])
+        ensures used { self.new.used ≡ used_after self.old.buffer.now self.old.used (row_line dots.now) }
+        ensures buffer { self.new.buffer.now ≡ appended self.old.buffer.now self.old.used (row_line dots.now) }
+        ensures same_buffer { self.new.buffer.ghost_name ≡ self.old.buffer.ghost_name }
+    {
+        let end = self.used.saturating_add(dots.len());
+        if self.buffer.len() <= end {
+            return;
+        }
+        for (i, &dot) in dots.iter().enumerate() {
+            self.buffer[self.used + i] = hex_digit(dot);
+        }
+        self.buffer[end] = b'\n';
+        self.used = end + 1;
+    }
 }

@@ -23,12 +23,12 @@ pub fn hex_digit(n: u8) -> u8
     }
 }
 
-// A name and numbers behind it.
+// A name, numbers, and what stands behind them.
 #[tactic(auto, using(crate::proofs::Digits::number_text, crate::proofs::Digits::number_length))]
-fn numbered(name: &str, numbers: &[u64]) -> ArrayString<LONGEST>
-    requires { (length name.now ≤ 7) × (length numbers.now ≤ 4) }
-    ensures text { result.bytes ≡ with_numbers name.now numbers.now }
-    ensures len { array_string_len result + 4 ≤ LONGEST }
+fn numbered(name: &str, numbers: &[u64], end: &str) -> ArrayString<LONGEST>
+    requires { (length name.now ≤ 7) × (length numbers.now ≤ 4) × (length end.now ≤ 1) }
+    ensures text { result.bytes ≡ with_numbers name.now numbers.now ++ end.now }
+    ensures len { array_string_len result + 3 ≤ LONGEST }
 {
     let mut line = ArrayString::new();
     line.push_str(name);
@@ -36,6 +36,7 @@ fn numbered(name: &str, numbers: &[u64]) -> ArrayString<LONGEST>
         line.push_str(" ");
         line.push_str(itoa::Buffer::new().format(n));
     }
+    line.push_str(end);
     line
 }
 
@@ -55,29 +56,20 @@ impl Line {
     {
         match self {
             Line::Refused(record, byte, number) => {
-                ended(numbered("refused", &[record, byte, u64::from(number)]))
+                numbered("refused", &[record, byte, u64::from(number)], "\n")
             }
             Line::Read(record, index, value) => {
-                let mut line = numbered("read", &[record, index]);
-                line.push_str(" ");
+                let mut line = numbered("read", &[record, index], " ");
                 push_hex(&mut line, value);
-                ended(line)
+                line.push_str("\n");
+                line
             }
             Line::Frame(record, frame, width, rows) => {
                 let numbers = [record, u64::from(frame), width as u64, u64::from(rows)];
-                ended(numbered("frame", &numbers))
+                numbered("frame", &numbers, "\n")
             }
-            Line::Bad(record) => ended(numbered("bad", &[record])),
-            Line::End(count) => ended(numbered("end", &[count])),
+            Line::Bad(record) => numbered("bad", &[record], "\n"),
+            Line::End(count) => numbered("end", &[count], "\n"),
         }
     }
-}
-
-// A line with its end.
-fn ended(mut line: ArrayString<LONGEST>) -> ArrayString<LONGEST>
-    requires { array_string_len line < LONGEST }
-    ensures { result.bytes ≡ line.bytes ++ (10 ∷ []) }
-{
-    line.push_str("\n");
-    line
 }

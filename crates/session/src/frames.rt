@@ -8,15 +8,20 @@ ghost use Rattle.session.specs.Records.{row_of, row_lines, framed, frame_lines};
 
 use crate::printing::{at_most, print_answer, print_line, room};
 use crate::{Frame, Output, Session};
-use lines::Line;
+use lines::{Line, Lines};
 use registers::Answer;
 
 fn print_row(rt: &impl Print, o: Output, out: &mut [u8], row: &[u8]) -> Output
     ensures { Prints (row_line row.now ∷ []) o out.old result out.new }
 {
     let o = room(rt, o, out);
+    let mut lines = Lines {
+        buffer: out,
+        used: o.used,
+    };
+    lines.append_row(row);
     Output {
-        used: lines::append_row(out, o.used, row),
+        used: lines.used,
         open: o.open,
     }
 }

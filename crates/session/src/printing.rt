@@ -6,7 +6,7 @@ ghost use Rattle.session.specs.Output.{buffer, is_full, used_before, OpenAfter, 
 ghost use Rattle.session.specs.Records.{write_reply_lines, read_reply_lines};
 
 use crate::Output;
-use lines::Line;
+use lines::{Line, Lines};
 use registers::{Answer, ReadAnswer};
 
 // The longest line: a row of 640 dots and its end.
@@ -53,8 +53,13 @@ pub fn print_line(rt: &impl Print, o: Output, out: &mut [u8], line: Line) -> Out
     ensures { Prints (line_text line ∷ []) o out.old result out.new }
 {
     let o = room(rt, o, out);
+    let mut lines = Lines {
+        buffer: out,
+        used: o.used,
+    };
+    lines.append_line(line);
     Output {
-        used: lines::append_line(out, o.used, line),
+        used: lines.used,
         open: o.open,
     }
 }

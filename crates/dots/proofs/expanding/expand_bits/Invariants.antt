@@ -1,10 +1,7 @@
-use Rattle.std.proofs.Common.{length, ◌-◌, get_or}
+use Rattle.std.proofs.Common.{length, get_or}
 use Rattle.dots.specs.Bytes.{dot_of}
 use Rattle.dots.proofs.Tables.{ColumnsDone}
 use Rattle.dots.proofs.expanding.expand_bits.Given as goal
 
 abbrev pub invariant-loop-c : goal.invariant-loop-c
-invariant-loop-c l = ColumnsDone (λ x. dot_of 1 (get_or l.line x 0)) (length l.line) l.per l.out l.c l.at
-
-abbrev pub decreases-loop-c : goal.decreases-loop-c
-decreases-loop-c l = length l.line - l.c
+invariant-loop-c l = ColumnsDone (λ x. dot_of 1 (get_or l.line x 0)) (length l.line) l.per l.out l.c

@@ -6,7 +6,7 @@ use Rattle.dots.proofs.Tables.{length_table, element}
 use Rattle.model.specs.Machine.{machine}
 use Rattle.model.specs.WriteRun.{RunOutcome}
 use Rattle.model.proofs.WriteRuns.{run_within}
-use Rattle.host.proofs.SentBytes.{one_refusal, command_sent, run_sent, write_sent}
+use Rattle.host.proofs.SentBytes.{counted, one_refusal, command_sent, run_sent, write_sent}
 use Rattle.host.proofs.sending.send.Goals as goal
 
 -- answers that were cleared, the first of them told
@@ -16,10 +16,10 @@ told_length l n first e = length-set l 0 first ∙ rw e (length_table n _)
 told_zeros : (l : List ℕ) {m n : ℕ} (first : ℕ) → l ≡ table m (λ c. 0) → m ≡ n → (k : ℕ) → 1 ≤ k → k < n → get_or (set l 0 first) k 0 ≡ 0
 told_zeros l first e same k h lt = get_or-set_other l 0 k first 0 (λ z. let same : k ≡ 0 = z in omega arith) ∙ element _ e same k lt
 
-pub overflow_add-i : goal.overflow_add-i
-overflow_add-i c =
+pub overflow_step-i : goal.overflow_step-i
+overflow_step-i c =
     let bs = drop 1 c.args.bytes.now in
-    let taken : c.write_run-run.result.length ≤ length bs = rw (ap (λ (o : RunOutcome). o.length) (rw part_to_end at c.write_run-run.ensures)) (run_within _ bs) in
+    let taken : c.write_run-taken.result ≤ length bs = rw (ap (λ (o : RunOutcome). o.length) (rw part_to_end at c.write_run-taken.ensures)) (run_within _ bs) in
     omega (arith, rw length-drop at taken)
 
 pub loop-i-init : goal.loop-i-init
@@ -27,20 +27,23 @@ loop-i-init c =
     let cleared = c.clear.ensures in
     let some = c.requires.0 in
     let same = c.requires.2 in
-    let as_long = told_length c.clear.new.line _ c.number-first.result cleared ∙ same in
+    let as_long = told_length c.clear.new.line _ c.number.result cleared ∙ same in
     let room : 0 < length c.clear.new.line = rw (cleared, length_table, same) some in
-    let first = command_sent (machine c.args.c c.args.memory.now) c.args.bytes.now c.clear.new.line some room (c.command_write-written.ensures c.args.memory.now) c.number-first.ensures c.refusal_count-refused.ensures in
+    let count = counted c.command_write-first.result c.is_err.ensures.value c.from-refused.ensures c.number.ensures in
+    let first = command_sent (machine c.args.c.now c.args.memory.now) c.args.bytes.now c.clear.new.line some room (c.command_write-first.ensures c.args.memory.now) c.number.ensures count in
     record {
-      sent = run_sent first (rw part_to_end at c.write_run-run.ensures) (told_zeros c.clear.new.line c.number-first.result cleared same) as_long;
-      few = rw c.refusal_count-refused.ensures (omega (arith, one_refusal c.number-first.result));
+      sent = run_sent first (rw part_to_end at c.write_run-taken.ensures) (told_zeros c.clear.new.line c.number.result cleared same) as_long;
+      few = rw count (omega (arith, one_refusal c.number.result));
       as_long = as_long;
     }
 
 pub loop-i-preserved : goal.loop-i-preserved
 loop-i-preserved c =
     let l = c.loop-i in
+    let n = c.number-in-loop-i in
+    let count = counted c.data_write-answer.result c.is_err-in-loop-i.ensures.value c.from-refused-in-loop-i.ensures n.ensures in
     record {
-      sent = write_sent l.invariant.sent c.loop-i-test.true (rw l.invariant.as_long c.loop-i-test.true) c.data_write-written.ensures c.number-n.ensures (ap (λ (k : ℕ). l.refused + k) c.refusal_count-refused-in-loop-i.ensures);
-      few = rw c.refusal_count-refused-in-loop-i.ensures (omega (arith, l.invariant.few, one_refusal c.number-n.result));
-      as_long = length-set l.answers l.i c.number-n.result ∙ l.invariant.as_long;
+      sent = write_sent l.invariant.sent c.loop-i-test.true (rw l.invariant.as_long c.loop-i-test.true) c.data_write-answer.ensures n.ensures (ap (λ (k : ℕ). l.refused + k) count);
+      few = rw count (omega (arith, l.invariant.few, one_refusal n.result));
+      as_long = length-set l.answers l.i n.result ∙ l.invariant.as_long;
     }

@@ -45,10 +45,11 @@ impl Scene<'_> {
         ensures { let r = self.now.registers in result ≡ cg_ram_byte r.system.m2 r.cgram self.now.memory.now code row }
     {
         let r = &self.registers;
-        let height = if r.system.m2 { 16 } else { 8 };
-        if r.system.m2 || row < 8 {
-            let glyph = usize::from(r.cgram) + usize::from(code) * height;
-            fetch(self.memory, glyph + usize::from(row))
+        let at = usize::from(r.cgram) + usize::from(row);
+        if r.system.m2 {
+            fetch(self.memory, at + usize::from(code) * 16)
+        } else if row < 8 {
+            fetch(self.memory, at + usize::from(code) * 8)
         } else {
             0
         }

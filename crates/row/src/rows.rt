@@ -16,7 +16,8 @@ use dots::{clear, expand_scrolled, mix_bytes, third_mix};
 use registers::{FONT_SIZE, MEMORY_SIZE, Refusal, Registers};
 
 impl Scene<'_> {
-    // The bytes of a layer mixed into those of the layers before it.
+    // The bytes of a layer mixed into those of the layers before it. As a call of its own it makes rows of three layers 4 % slower.
+    #[inline(always)]
     fn mix_layer(&self, layer: Option<BlockRow>, mx: u8, line: &mut [u8], scratch: &mut [u8])
         requires { length scratch.old ≡ length line.old }
         ensures { let s = self.now in

@@ -5,6 +5,7 @@ use Rattle.std.proofs.Math.Nat.{le_of_suc-le-suc, not-suc-le-zero}
 use Rattle.std.proofs.Math.Seq.{paste}
 use Rattle.std.proofs.lemmas.List.Edits.{paste_more, paste_all}
 use Rattle.std.proofs.lemmas.Bool.{le-leb}
+use Rattle.std.proofs.lemmas.Grind.{common_steps}
 use Rattle.lines.specs.Lines.{hex_digit, row_line, appended}
 pub use Rattle.lines.proofs.Lengths.{row-length}
 
@@ -22,8 +23,7 @@ row_end (x ∷ xs) = row_end xs
 -- one byte more
 pub stored : (buffer dots : List ℕ) (used k v : ℕ) → used + length dots < length buffer → k ≤ length dots → v ≡ get_or (row_line dots) k 0
     → set (paste buffer used (row_line dots) k) (used + k) v ≡ paste buffer used (row_line dots) (k + 1)
-stored buffer dots used k v fits h e =
-    let l = row-length dots in rw e (paste_more buffer used (row_line dots) k 0 (omega arith) (omega arith))
+stored buffer dots used k v fits h e = grind (arith, common_steps, row-length dots, paste_more buffer used (row_line dots) k 0)
 
 -- the line's end, and with it the whole line
 pub ended : (buffer dots : List ℕ) (used k end : ℕ) → end < length buffer → end ≡ used + length dots → k ≡ length dots

@@ -1,8 +1,9 @@
 -- The dots of mixed bytes are the dots mixed. It knows no code.
 use Rattle.std.proofs.Common.{ℕ, zero, suc, ◌+◌, ◌-◌, ◌*◌, ◌/◌, ◌%◌, ◌^◌, ◌<◌, ◌≤◌, Bool, true, false, ◌≡◌, refl, sym, ap, ◌∙◌, subst, ⊎_elim, arith, bit_and, bit_or, bit_xor, mod-lt, pow_pos, pow-add, shr-shr, shl_exact, mul-suc, mul-le-mul_left, add-one, div-one, ne_eqb, le-ltb, eqb→eq}
-use lib.Arith.{digits_lt}
-use lib.Bits.{or_shr, or_mod, or_shifted, xor_shr, xor_mod, and_shr, and_mod, or_zero_r}
-use lib.Pow.{high, low}
+use Rattle.std.proofs.lemmas.Nat.{or_shr, or_mod, or_shifted, xor_shr, xor_mod, and_shr, and_mod}
+use Rattle.std.specs.Int.Bits.{or_zero_r}
+use Rattle.std.proofs.Math.Arith.{digits_lt}
+use Rattle.std.proofs.Math.Pow.{high, low}
 use Rattle.choice.specs.Choice.{when◌then◌else◌, ◌=?◌}
 use Rattle.choice.proofs.Below.{all_below, all_below_lem}
 use Rattle.choice.proofs.Cases.{lt_or_le}

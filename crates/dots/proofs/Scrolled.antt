@@ -1,15 +1,7 @@
 -- Dot x of a scrolled line is dot x + n of the line. It knows no code.
-use Prim.Native.Nat.{ℕ, zero, suc, ◌+◌, ◌-◌, ◌*◌, ◌/◌, ◌%◌, ◌^◌, ◌<◌, ◌≤◌}
-use mathlib.Core.List.{List}
-use mathlib.Core.Logic.{⊎_elim}
-use mathlib.Core.Path.{◌≡◌, refl, sym, ap, ◌∙◌}
-use native.Mathlib.Nat.{suc-ne-zero, add-zero, one-mul, mod-lt, div-add-mod', div-lt_iff_lt-mul, mul-le-mul_right}
-use native.Mathlib.Omega.{arith}
-use lib.Arith.{digits_div, digits_mod}
-use lib.ListN.{length, get_or, take}
-use lib.Seq.{get_or-take}
-use lib.Pow.{shr-shr, high, low, field, mod-mod-pow}
-use borrow.Author.Tests.{ne_eqb}
+use Rattle.std.proofs.Common.{ℕ, zero, suc, ◌+◌, ◌-◌, ◌*◌, ◌/◌, ◌%◌, ◌^◌, ◌<◌, ◌≤◌, List, length, get_or, take, ◌≡◌, refl, sym, ap, ◌∙◌, ⊎_elim, arith, suc-ne-zero, add-zero, one-mul, mod-lt, div-add-mod', div-lt_iff_lt-mul, mul-le-mul_right, get_or-take, shr-shr, ne_eqb}
+use Rattle.std.proofs.Math.Arith.{digits_div, digits_mod}
+use Rattle.std.proofs.Math.Pow.{high, low, field, mod-mod-pow}
 use Rattle.choice.proofs.Cases.{lt_or_le}
 use Rattle.dots.specs.Tables.{table}
 use Rattle.dots.specs.Bytes.{dot_of}

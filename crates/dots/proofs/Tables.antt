@@ -1,12 +1,9 @@
 -- Tables: lists by their elements.
-use Rattle.std.proofs.Common.{ℕ, ◌+◌, ◌-◌, ◌*◌, ◌/◌, ◌%◌, ◌<◌, ◌≤◌, List, ◌++◌, length, get_or, take, drop, replicate, ◌≡◌, sym, ap, ◌∙◌, subst, ⊎_elim, arith, zero-add}
+use Rattle.std.proofs.Common.{ℕ, ◌+◌, ◌-◌, ◌*◌, ◌/◌, ◌%◌, ◌<◌, ◌≤◌, List, ◌++◌, length, get_or, take, drop, replicate, ◌≡◌, sym, ap, ◌∙◌, subst, ⊎_elim, arith, zero-add, add-mul, one-mul, div-add-mod', mod-lt, add-sub_of_le, suc-mul, mul-le-mul_right, add-one, get_or-take, get_or-append-add, length-take-le}
 use Rattle.std.proofs.lemmas.List.{get_or-replicate, length-replicate}
 use Rattle.std.proofs.lemmas.List.FromFn.{length-map-range_with_len, get_or-map-range_with_len, fill_by_all}
-use native.Mathlib.Nat.{add-sub_of_le, suc-mul, mul-le-mul_right}
-use native.Mathlib.Numerals.{add-one}
-use lib.Arith.{digits_div, digits_mod}
-use lib.ListN.{get_or-append}
-use lib.Seq.{get_or-take, get_or-append-add, length-take-le}
+use Rattle.std.proofs.Math.Arith.{digits_div, digits_mod}
+use Rattle.std.proofs.Math.ListN.{get_or-append}
 use Rattle.choice.proofs.Cases.{lt_or_le}
 use Rattle.choice.proofs.Parts.{part_length}
 use Rattle.dots.specs.Tables.{table}
@@ -68,6 +65,12 @@ column_room {c} {n} p h = subst (λ (x : ℕ). x ≤ n * p) (suc-mul c p) (mul-l
 
 pub column_next : (c p : ℕ) → c * p + p ≡ (c + 1) * p
 column_next c p = sym (suc-mul c p) ∙ ap (λ (x : ℕ). x * p) (sym (add-one c))
+
+-- eight elements from a column's first on, where the columns left have so many
+pub room_for_8 : (c n p : ℕ) → 0 < p → c < n - 7 / p → c * p + 8 ≤ n * p
+room_for_8 c n p pos h =
+    let q : ℕ = 7 / p in
+    omega (arith, mul-le-mul_right {m = c + (q + 1)} {n = n} p (omega arith), add-mul c (q + 1) p, add-mul q 1 p, one-mul p, div-add-mod' 7 p, mod-lt 7 pos)
 
 -- the column of an element, and its place there
 at_column : (f : ℕ → ℕ → ℕ) (c : ℕ) {p j : ℕ} → j < p → f c j ≡ f ((c * p + j) / p) ((c * p + j) % p)

@@ -23,7 +23,7 @@ fn spread<const BITS: usize>(b: u8, out: &mut [u8])
     }
 }
 
-// The dots of all columns in grey.
+// The dots of all columns in grey. No `chunks_exact_mut`, of whose writes std says nothing.
 fn expand_grey<const BITS: usize>(line: &[u8], out: &mut [u8])
     requires { FillByte BITS × (length out.old ≡ length line.now * (8 / BITS)) }
     ensures { out.new ≡ table (length line.now * (8 / BITS)) (expanded_dot BITS (8 / BITS) line.now) }
@@ -34,7 +34,7 @@ fn expand_grey<const BITS: usize>(line: &[u8], out: &mut [u8])
     }
 }
 
-// The four dots of each half of a byte.
+// The four dots of each half of a byte. A `const` is built anew where a loop names it.
 static HALVES: [[u8; 4]; 16] = [
     [0, 0, 0, 0],
     [0, 0, 0, 1],
@@ -71,19 +71,22 @@ fn eight_dots(b: u8) -> [u8; 8]
     [d0, d1, d2, d3, d4, d5, d6, d7]
 }
 
-// The dots of all columns at one bit a dot. Where there is room for it a byte gives all its eight dots, and the next column's go over
-// those past its own.
+// The dots of all columns at one bit a dot. A byte gives all its eight dots, and the next column's go over those past its own; the last
+// columns, behind which eight have no room, give their own alone. By one loop with a test for room a row costs a tenth more.
 fn expand_bits(per: usize, line: &[u8], out: &mut [u8])
     requires { (per ≤ 8) × (length out.old ≡ length line.now * per) }
     ensures { out.new ≡ table (length line.now * per) (expanded_dot 1 per line.now) }
 {
-    for (c, b) in line.iter().enumerate() {
+    if per == 0 {
+        return;
+    }
+    let roomy = line.len().saturating_sub(7 / per);
+    for (c, b) in line[..roomy].iter().enumerate() {
         let at = c * per;
-        if at + 8 <= out.len() {
-            out[at..at + 8].copy_from_slice(&eight_dots(*b));
-        } else {
-            spread::<1>(*b, &mut out[at..at + per]);
-        }
+        out[at..at + 8].copy_from_slice(&eight_dots(*b));
+    }
+    for c in roomy..line.len() {
+        spread::<1>(line[c], &mut out[c * per..(c + 1) * per]);
     }
 }
 

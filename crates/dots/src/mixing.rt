@@ -1,4 +1,4 @@
-// Stage 3 of a row: the layers' bytes mixed. Each group of bits of a mixed byte is the mix of that group of the bytes.
+// Stage 3 of a row: the layers' bytes mixed. Each dot of a mixed byte is the mix of that dot of the bytes.
 ghost use Rattle.std.specs.Prelude.{◌≡◌, ℕ, ◌*◌, ◌/◌, ◌<◌, length, get_or};
 ghost use Rattle.dots.specs.Tables.{table};
 ghost use Rattle.dots.specs.Mixing.{first_of};
@@ -15,19 +15,19 @@ fn first_of(a: u8, b: u8) -> u8
     if a == 0 { b } else { a }
 }
 
-// Byte by byte and dot by dot, the first that is not 0.
+// Of each dot the first that is not 0.
 fn first_dots<const BITS: usize>(a: u8, b: u8) -> u8
     requires { FillByte BITS }
     ensures { result ≡ first_dots BITS (8 / BITS) a b }
 {
     let mut mixed = 0;
     for j in 0..8 / BITS {
-        mixed = mixed << BITS | first_of(dot::<BITS>(a, j), dot::<BITS>(b, j));
+        mixed = (mixed << BITS) | first_of(dot::<BITS>(a, j), dot::<BITS>(b, j));
     }
     mixed
 }
 
-// The bytes of a layer mixed into those before it: a loop of its own for each closure.
+// The bytes of a layer mixed into those before it, by a loop of its own for each closure. No `zip`, of whose writes std says nothing.
 fn mix_with<F: Fn(u8, u8) -> u8>(line: &mut [u8], layer: &[u8], mix: F)
     requires callable { F.IsAlwaysCallable mix }
     requires long { length layer.now ≡ length line.old }

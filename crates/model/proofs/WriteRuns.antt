@@ -1,5 +1,6 @@
 -- Runs of data writes: all accepted, and as long as can be; and a run as bytes stored a stride apart.
 use Rattle.std.proofs.Common.{◌≡◌, ℕ, suc, ◌+◌, ◌%◌, ◌<◌, ◌≤◌, Bool, true, false, not, ◌&&◌, T, Option, None, Some, List, [], ◌∷◌, map, length, take, set, sym, refl, ◌∙◌, subst, suc-le-suc, zero-le, le_of_suc-le-suc, add-zero, zero-add, arith, length-set, eq-eqb}
+use Rattle.std.proofs.Math.Bool.{and-false}
 use Rattle.choice.specs.Choice.{when◌then◌else◌, ◌<?◌}
 use Rattle.choice.proofs.Cases.{choose, both_true}
 use Rattle.registers.specs.declared.Command.{Command}
@@ -11,7 +12,7 @@ use Rattle.model.specs.Machine.{Machine, machine, accept, refuse, controller}
 use Rattle.model.specs.Bus.{sized, served, ◌serves◌, accessed, inside, write_data, data_write, write_memory}
 use Rattle.model.specs.Calls.{write, after, outcomes}
 use Rattle.model.specs.Refresh.{All}
-use Rattle.model.specs.WriteRun.{stores, run_length, RunOutcome, run_outcome}
+use Rattle.model.specs.WriteRun.{stores, run_length, RunOutcome, run_outcome, write_run_outcome}
 use Rattle.model.specs.Strides.{StoredOutcome, stored_from}
 use Rattle.model.proofs.Steps.{at, next}
 
@@ -30,6 +31,12 @@ stored m b h =
 
 stores_accepted : (m : Machine) (b : ℕ) → stores m ≡ true → (data_write m b).reply ≡ accepted
 stores_accepted m b h = rw (stored m b h)
+
+-- what MWRITE does not serve takes no byte
+pub no_run : (c : Controller) {memory memory' : List ℕ} (bs : List ℕ) → memory' ≡ memory → (served c serves Mwrite) ≡ false → write_run_outcome c 0 memory' ≡ run_outcome (machine c memory) bs
+unfolding stores
+no_run c [] e h = rw e
+no_run c {memory} (b ∷ bs) e h = rw (e, h, and-false (sized (machine c memory)))
 
 pub run_within : (m : Machine) (bs : List ℕ) → run_length m bs ≤ length bs
 run_within m [] = zero-le

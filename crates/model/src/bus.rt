@@ -1,7 +1,7 @@
 // Calls of the bus.
 ghost use Rattle.std.specs.Prelude.{◌≡◌, ℕ, ◌<◌, List};
 ghost use Rattle.model.specs.Machine.{reset_controller, machine, written_outcome, read_outcome, with_pending};
-ghost use Rattle.model.specs.Bus.{ignored, display_off, served, command_write, write_parameter, data_write, cursor_reads, address_byte, data_read};
+ghost use Rattle.model.specs.Bus.{ignored, display_off, served, ◌serves◌, command_write, write_parameter, data_write, cursor_reads, address_byte, data_read};
 ghost use Rattle.model.specs.WriteRun.{run_outcome, write_run_outcome};
 
 use crate::{Controller, Pending};
@@ -71,6 +71,12 @@ impl Controller {
         }
     }
 
+    fn serves(&self, command: Command) -> bool
+        ensures { result ≡ (served self.now serves command) }
+    {
+        self.served() == Some(command)
+    }
+
     #[tactic(auto, unfolding(crate::specs::Bus::command_write, crate::specs::Bus::take_command))]
     pub fn command_write(&mut self, b: u8) -> Result<(), Refusal>
         ensures { (memory : List ℕ) → written_outcome self.new result memory ≡ command_write (machine self.old memory) b }
@@ -126,12 +132,13 @@ impl Controller {
     pub fn write_run(&mut self, memory: &mut [u8], bytes: &[u8]) -> usize
         ensures { write_run_outcome self.new result memory.new ≡ run_outcome (machine self.old memory.old) bytes.now }
     {
-        if memory.len() != MEMORY_SIZE {
+        let Some(memory) = memory.as_mut_array::<MEMORY_SIZE>() else {
             return 0;
-        }
-        match self.served() {
-            Some(Command::Mwrite) => self.write_memory_run(memory, bytes),
-            _ => 0,
+        };
+        if self.serves(Command::Mwrite) {
+            self.write_memory_run(memory, bytes)
+        } else {
+            0
         }
     }
 

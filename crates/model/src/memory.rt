@@ -35,8 +35,7 @@ fn stride(direction: Direction, ap: u16) -> u16
 }
 
 // Bytes stored at addresses one after the other: one copy, up to memory's end.
-fn store_adjacent(memory: &mut [u8], bytes: &[u8], address: u16) -> Stored
-    requires { length memory.old ≡ memory_size }
+fn store_adjacent(memory: &mut [u8; MEMORY_SIZE], bytes: &[u8], address: u16) -> Stored
     ensures { stored_outcome result memory.new ≡ stored_from 1 0 address memory.old bytes.now }
 {
     let at = usize::from(address);
@@ -79,8 +78,7 @@ fn fitting(address: u16, stride: u16, all: usize) -> usize
 
 // Bytes stored a stride apart, up to the first address past memory's end. How many is found first, so that the loop tests nothing else; and
 // it carries the address alone: a controller by value costs more than a store.
-fn store_strided(memory: &mut [u8], bytes: &[u8], address: u16, stride: u16) -> Stored
-    requires { length memory.old ≡ memory_size }
+fn store_strided(memory: &mut [u8; MEMORY_SIZE], bytes: &[u8], address: u16, stride: u16) -> Stored
     ensures { stored_outcome result memory.new ≡ stored_from stride 0 address memory.old bytes.now }
 {
     let count = fitting(address, stride, bytes.len());
@@ -96,8 +94,7 @@ fn store_strided(memory: &mut [u8], bytes: &[u8], address: u16, stride: u16) -> 
 }
 
 // Bytes stored from an address on.
-fn store_from(memory: &mut [u8], bytes: &[u8], address: u16, stride: u16) -> Stored
-    requires { length memory.old ≡ memory_size }
+fn store_from(memory: &mut [u8; MEMORY_SIZE], bytes: &[u8], address: u16, stride: u16) -> Stored
     ensures { stored_outcome result memory.new ≡ stored_from stride 0 address memory.old bytes.now }
 {
     if stride == 1 {
@@ -123,8 +120,7 @@ impl Controller {
     }
 
     // Bytes stored from the cursor on while it is inside memory; how many they are.
-    pub(crate) fn write_memory_run(&mut self, memory: &mut [u8], bytes: &[u8]) -> usize
-        requires memory_len { length memory.old ≡ memory_size }
+    pub(crate) fn write_memory_run(&mut self, memory: &mut [u8; MEMORY_SIZE], bytes: &[u8]) -> usize
         requires serves_mwrite { served self.old serves Mwrite ≡ true }
         ensures { write_run_outcome self.new result memory.new ≡ run_outcome (machine self.old memory.old) bytes.now }
     {

@@ -2,8 +2,8 @@ use Rattle.std.proofs.Common.{◌≡◌, length, take, zero-add, arith, length-t
 use Rattle.model.proofs.Strides.{none_stored, adjacent, put_back}
 use Rattle.model.proofs.memory.store_adjacent.Goals as goal
 
-pub returns-then-memory-at : goal.returns-then-memory-at
-returns-then-memory-at c =
+pub returns-then-at-ge32768 : goal.returns-then-at-ge32768
+returns-then-at-ge32768 c =
     let a = c.args in
     none_stored 1 0 a.address a.memory.now a.bytes.now (λ h. omega arith)
 
@@ -13,4 +13,4 @@ returns c =
     let n = c.min-n.result in
     let size : length (take n a.bytes.now) ≡ n = length-take-le _ _ (omega arith) in
     rw (c.copy_from_slice.ensures.after, c.from-at.ensures, put_back a.memory.now (take n a.bytes.now) a.address n size (omega arith))
-    (rw zero-add at (adjacent 0 a.address n a.memory.now a.bytes.now c.requires (rw c.from-at.ensures at c.min-n.ensures)))
+    (rw zero-add at (adjacent 0 a.address n a.memory.now a.bytes.now (omega arith) (omega (arith, c.from-at.ensures, c.min-n.ensures))))

@@ -28,6 +28,13 @@ no_row : (layer : Option BlockRow) → is_some layer ≡ false → layer ≡ Non
 no_row None e = refl
 no_row (Some b) e = absurd (subst T e tt)
 
+-- the bytes of a layer mixed into a line
+pub mixed_in : (r : Registers) (memory font : List ℕ) (frame : ℕ) (layer : Option BlockRow) (mx : ℕ) (line : List ℕ) {next mixed : List ℕ} {m k : ℕ} → k ≡ m
+    → next ≡ table k (layer_byte r memory font frame layer) → mixed ≡ table m (λ c. mix_byte mx r.grey (get_or line c 0) (get_or next c 0))
+    → mixed ≡ table m (λ c. mix_byte mx r.grey (get_or line c 0) (layer_byte r memory font frame layer c))
+mixed_in r memory font frame layer mx line {next} {mixed} {m} q en e =
+    e ∙ same_table m _ _ (λ c h. ap (λ (x : ℕ). mix_byte mx r.grey (get_or line c 0) x) (element _ en q c h))
+
 module _ (r : Registers) (memory font : List ℕ) (frame n : ℕ) where
   -- the bytes of a layer
   abbrev bytes : Option BlockRow → ℕ → ℕ
@@ -44,12 +51,6 @@ module _ (r : Registers) (memory font : List ℕ) (frame n : ℕ) where
   -- a line's dots are those of layers 1 and 2
   abbrev pub TwoDots : List ℕ → Type 0
   TwoDots line = (c j : ℕ) → c < ⁅ r.system.cr ⁆ → j < per_column r → dot_of (bits_per_dot r.grey) (get_or line c 0) j ≡ two_dot c j
-
-  -- the bytes of a layer mixed into a line
-  pub mixed_in : (layer : Option BlockRow) (mx : ℕ) (line : List ℕ) {next mixed : List ℕ} {m k : ℕ} → k ≡ m → next ≡ table k (bytes layer)
-      → mixed ≡ table m (λ c. mix_byte mx r.grey (get_or line c 0) (get_or next c 0)) → mixed ≡ table m (λ c. mix_byte mx r.grey (get_or line c 0) (bytes layer c))
-  mixed_in layer mx line {next} {mixed} {m} q en e =
-      e ∙ same_table m _ _ (λ c h. ap (λ (x : ℕ). mix_byte mx r.grey (get_or line c 0) x) (element _ en q c h))
 
   -- layers 1 and 2 as the stages leave them: the bytes of the first, the cursor in them, the bytes of the second mixed in
   pub two_mixed : {one cursor mixed : List ℕ} {m1 m2 m3 : ℕ} → Composable r → m1 ≡ ⁅ r.system.cr ⁆ → m2 ≡ ⁅ r.system.cr ⁆ → m3 ≡ ⁅ r.system.cr ⁆

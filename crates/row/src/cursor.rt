@@ -19,7 +19,10 @@ const FIRST_BITS: [u8; 8] = [0, 128, 192, 224, 240, 248, 252, 254];
 fn first_bits(n: Code) -> u8
     ensures { result ≡ first_bits ⁅ n ⁆ }
 {
-    FIRST_BITS.get(n.count().0 as usize).copied().unwrap_or(255)
+    FIRST_BITS
+        .get(usize::from(n.count().0))
+        .copied()
+        .unwrap_or(255)
 }
 
 // Whether the cursor's shape has a glyph row.
@@ -59,7 +62,7 @@ impl Scene<'_> {
             let r = &self.registers;
             let text_line = shown.row / r.system.fy.count().0;
             let start = line_address(shown.block.sad(r.blocks), r.system.ap, text_line);
-            let at = r.cursor.address.wrapping_sub(start) as usize;
+            let at = usize::from(r.cursor.address.wrapping_sub(start));
             if at < line.len() {
                 line[at] ^= first_bits(r.form.crx);
             }

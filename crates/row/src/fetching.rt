@@ -22,7 +22,7 @@ pub fn line_address(start: u16, pitch: u16, q: u16) -> u16
 fn memory_bytes(memory: &[u8; MEMORY_SIZE], start: u16, line: &mut [u8])
     ensures { line.new ≡ table (length line.old) (λ c. fetch memory.now (start + c)) }
 {
-    let at = start as usize;
+    let at = usize::from(start);
     let end = at + line.len();
     if end <= memory.len() {
         line.copy_from_slice(&memory[at..end]);
@@ -39,8 +39,10 @@ impl Scene<'_> {
         ensures { let s = self.now in
             line.new ≡ table (length line.old) (λ c. glyph_byte s.registers s.memory.now s.font.now (slice_index line.old c) row) }
     {
+        // A copy, so that what each byte's glyph needs is read once, and not again behind each write.
+        let scene = *self;
         for byte in line.iter_mut() {
-            *byte = self.glyph_byte(*byte, row);
+            *byte = scene.glyph_byte(*byte, row);
         }
     }
 

@@ -21,10 +21,8 @@ fn glyph_of(m0: bool, code: u8) -> Glyph
     match code {
         _ if m0 => Glyph::CgRam,
         0x00..=0x1F => Glyph::Empty,
-        0x20..=0x7F => Glyph::Font(code - 0x20),
-        0x80..=0x9F => Glyph::CgRam,
-        0xA0..=0xDF => Glyph::Font(code - 0x40),
-        0xE0..=0xFF => Glyph::CgRam,
+        0x20..=0x7F | 0xA0..=0xDF => Glyph::Font(code - if code < 0x80 { 0x20 } else { 0x40 }),
+        0x80..=0x9F | 0xE0..=0xFF => Glyph::CgRam,
     }
 }
 
@@ -36,7 +34,7 @@ impl Scene<'_> {
         ensures { result ≡ font_byte self.now.font.now index row }
     {
         if row < 8 {
-            self.font[index as usize * 8 + row as usize]
+            self.font[usize::from(index) * 8 + usize::from(row)]
         } else {
             0
         }
@@ -47,16 +45,11 @@ impl Scene<'_> {
         ensures { let r = self.now.registers in result ≡ cg_ram_byte r.system.m2 r.cgram self.now.memory.now code row }
     {
         let r = &self.registers;
+        let at = usize::from(r.cgram) + usize::from(row);
         if r.system.m2 {
-            fetch(
-                self.memory,
-                r.cgram as usize + code as usize * 16 + row as usize,
-            )
+            fetch(self.memory, at + usize::from(code) * 16)
         } else if row < 8 {
-            fetch(
-                self.memory,
-                r.cgram as usize + code as usize * 8 + row as usize,
-            )
+            fetch(self.memory, at + usize::from(code) * 8)
         } else {
             0
         }

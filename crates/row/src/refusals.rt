@@ -12,14 +12,14 @@ use registers::{Blocks, Code, CursorForm, Overlay, Refusal, Registers};
 fn grey_mode(grey: u8, o: Overlay, fx: Code) -> bool
     ensures { result ≡ grey_mode grey o fx }
 {
-    grey != 0 && !(o.dm2 && o.dm1 && fx.count().0 == 8)
+    grey != 0 && (!o.dm2 || !o.dm1 || fx.count().0 != 8)
 }
 
 #[tactic(auto, unfolding(crate::specs::Refusals::smooth_scroll))]
 fn smooth_scroll(hdot: u8, grey: u8, fx: Code, cr: Code) -> bool
     ensures { result ≡ smooth_scroll hdot grey fx cr }
 {
-    hdot != 0 && (grey != 0 || fx.count().0 <= hdot as u16 || cr.count().0 == 1)
+    hdot != 0 && (grey != 0 || fx.count().0 <= u16::from(hdot) || cr.count().0 == 1)
 }
 
 #[tactic(auto, unfolding(crate::specs::Refusals::odd_lines))]
@@ -33,7 +33,7 @@ fn odd_lines(ws: bool, lf: Code) -> bool
 fn layer_order(ws: bool, o: Overlay, b: Blocks) -> bool
     ensures { result ≡ layer_order ws o b }
 {
-    !ws && !three_layers(ws, o) && b.sl2.0 < b.sl1.0 && !(o.dm2 && o.dm1)
+    !ws && !three_layers(ws, o) && b.sl2.0 < b.sl1.0 && (!o.dm2 || !o.dm1)
 }
 
 #[tactic(auto, unfolding(crate::specs::Refusals::cursor_shape))]
@@ -67,7 +67,7 @@ pub fn check_row(r: &Registers, n: u32, buffer_length: usize) -> Result<(), Refu
     if odd_lines(s.ws, s.lf) {
         return Err(Refusal::OddLines);
     }
-    if (s.tcr.0 as u16) < s.cr.0 as u16 + 4 {
+    if u16::from(s.tcr.0) < u16::from(s.cr.0) + 4 {
         return Err(Refusal::ShortLine);
     }
     if layer_order(s.ws, r.overlay, r.blocks) {
@@ -76,7 +76,7 @@ pub fn check_row(r: &Registers, n: u32, buffer_length: usize) -> Result<(), Refu
     if cursor_shape(r.display.fc, r.form, s.fx) {
         return Err(Refusal::CursorShape);
     }
-    if s.lf.count().0 as u32 <= n {
+    if u32::from(s.lf.count().0) <= n {
         return Err(Refusal::RowNumber);
     }
     if buffer_length != width {

@@ -1,20 +1,33 @@
 // A row of dots.
-ghost use Rattle.std.specs.Prelude.{◌≡◌, ◌+◌, ◌≤◌, length};
+ghost use Rattle.std.specs.Prelude.{◌≡◌, ◌+◌, ◌≤◌, length, slice_index};
 ghost use Rattle.registers.specs.Counts.{⁅◌⁆};
 ghost use Rattle.dots.specs.Tables.{table};
-ghost use Rattle.row.specs.Dots.{width, composed_dot, is_shown, dots};
+ghost use Rattle.dots.specs.MixedBytes.{mix_byte};
+ghost use Rattle.row.specs.Dots.{layer_byte, width, composed_dot, is_shown, dots};
 ghost use Rattle.row.specs.Rows.{frame_size, row_outcome, composed_outcome};
 ghost use Rattle.row.specs.Stages.{ColumnDots};
 
-use crate::FrameSize;
 use crate::layers::{layer1, layer2, layer3};
 use crate::refusals::check_row;
 use crate::scene::Scene;
 use crate::width::{columns, dots_per_column, row_width, shown_columns};
+use crate::{BlockRow, FrameSize};
 use dots::{clear, expand_scrolled, mix_bytes, third_mix};
 use registers::{FONT_SIZE, MEMORY_SIZE, Refusal, Registers};
 
 impl Scene<'_> {
+    // The bytes of a layer mixed into those of the layers before it. As a call of its own it makes rows of three layers 4 % slower.
+    #[inline(always)]
+    fn mix_layer(&self, layer: Option<BlockRow>, mx: u8, line: &mut [u8], scratch: &mut [u8])
+        requires { length scratch.old ≡ length line.old }
+        ensures { let s = self.now in
+            line.new ≡ table (length line.old)
+            (λ c. mix_byte mx s.registers.grey (slice_index line.old c) (layer_byte s.registers s.memory.now s.font.now s.frame layer c)) }
+    {
+        self.layer_bytes(layer, scratch);
+        mix_bytes(mx, self.registers.grey, line, scratch);
+    }
+
     // The bytes of row n, all layers mixed.
     fn mix_layers(&self, n: u16, line: &mut [u8], scratch: &mut [u8])
         requires line { (length line.old ≡ ⁅ self.now.registers.system.cr ⁆) × (length line.old ≤ 256) }
@@ -25,19 +38,17 @@ impl Scene<'_> {
         let layer = layer1(r, n);
         self.layer_bytes(layer, line);
         self.invert(layer, line);
-        self.layer_bytes(layer2(r, n), scratch);
-        mix_bytes(r.overlay.mx, r.grey, line, scratch);
+        self.mix_layer(layer2(r, n), r.overlay.mx, line, scratch);
         let third = layer3(r, n);
         if third.is_some() {
-            self.layer_bytes(third, scratch);
-            mix_bytes(third_mix(r.overlay.mx), r.grey, line, scratch);
+            self.mix_layer(third, third_mix(r.overlay.mx), line, scratch);
         }
     }
 
     // The dots of row n with the display on, by way of a line of its bytes: fetched, with the cursor, mixed, scrolled, and expanded. The row's own buffer
     // holds the bytes of layers 2 and 3 until its dots go there.
     #[tactic(auto, unfolding(crate::specs::Dots::width))]
-    fn paint(&self, n: u16, out: &mut [u8])
+    fn draw(&self, n: u16, out: &mut [u8])
         requires { length out.old ≡ width self.now.registers }
         ensures { let s = self.now in
             out.new ≡ table (width s.registers) (λ x. composed_dot s.registers s.memory.now s.font.now s.frame n (x + s.registers.hdot)) }
@@ -47,28 +58,16 @@ impl Scene<'_> {
         let mut buffer = [0u8; 256];
         let line = &mut buffer[..count];
         self.mix_layers(n, line, &mut out[..count]);
-        let per = dots_per_column(r.grey, r.system.fx) as usize;
+        let per = dots_per_column(r.grey, r.system.fx);
         let shown = shown_columns(r.hdot, r.system.cr);
-        expand_scrolled(r.grey, per, r.hdot as usize, shown, line, out);
+        expand_scrolled(r.grey, per, usize::from(r.hdot), shown, line, out);
     }
+}
 
-    fn is_shown(&self) -> bool
-        ensures { result ≡ is_shown self.now.registers.display.on self.now.registers.asleep }
-    {
-        self.registers.display.on && !self.registers.asleep
-    }
-
-    // The dots of row n: 0 with the display off, or asleep.
-    fn draw(&self, n: u16, out: &mut [u8])
-        requires { length out.old ≡ width self.now.registers }
-        ensures { let s = self.now in out.new ≡ dots s.registers s.memory.now s.font.now s.frame n }
-    {
-        if self.is_shown() {
-            self.paint(n, out);
-        } else {
-            clear(out);
-        }
-    }
+fn is_shown(r: &Registers) -> bool
+    ensures { result ≡ is_shown r.now.display.on r.now.asleep }
+{
+    r.display.on && !r.asleep
 }
 
 // How large a frame is, refused or not.
@@ -103,6 +102,11 @@ pub fn compose(
     };
     let registers = registers.in_layout();
     check_row(&registers, n, out.len())?;
+    // Before there is a scene, whose registers a dark row does not store.
+    if !is_shown(&registers) {
+        clear(out);
+        return Ok(());
+    }
     Scene {
         registers,
         memory,

@@ -6,12 +6,12 @@ ghost use Rattle.row.specs.Dots.{dots_per_column, shown_columns, width};
 use registers::{Code, Registers};
 
 #[tactic(auto, unfolding(crate::specs::Dots::dots_per_column))]
-pub fn dots_per_column(grey: u8, fx: Code) -> u16
+pub fn dots_per_column(grey: u8, fx: Code) -> usize
     requires { grey < 3 }
-    ensures { result ≡ dots_per_column grey fx }
+    ensures { (result ≡ dots_per_column grey fx) × (result ≤ 256) }
 {
     match grey {
-        0 => fx.count().0,
+        0 => usize::from(fx.count().0),
         1 => 4,
         _ => 2,
     }
@@ -20,7 +20,7 @@ pub fn dots_per_column(grey: u8, fx: Code) -> u16
 pub fn columns(cr: Code) -> usize
     ensures { (result ≡ ⁅ cr ⁆) × (result ≤ 256) }
 {
-    cr.count().0 as usize
+    usize::from(cr.count().0)
 }
 
 // The columns that a row shows.
@@ -38,5 +38,5 @@ pub fn row_width(r: &Registers) -> usize
     requires { r.now.grey < 3 }
     ensures { result ≡ width r.now }
 {
-    shown_columns(r.hdot, r.system.cr) * dots_per_column(r.grey, r.system.fx) as usize
+    shown_columns(r.hdot, r.system.cr) * dots_per_column(r.grey, r.system.fx)
 }

@@ -1,5 +1,6 @@
 use Rattle.std.proofs.Common.{sym, ◌∙◌}
 use Rattle.std.proofs.lemmas.Result.{err_from_is_err_and}
+use Rattle.row.proofs.Dots.{row_when}
 use Rattle.row.proofs.Accepting.{grey_code, accepted, outcome_memory_size, outcome_font_size, outcome_accepted, outcome_refused}
 use Rattle.row.proofs.rows.compose.Goals as goal
 
@@ -34,11 +35,22 @@ pub draw-requires : goal.draw-requires
 draw-requires c =
     (accepted _ (rw c.in_layout-registers.ensures (grey_code c.args.registers)) _ _ _ _ (sym c.in_ok-check_row.ensures.result_value)).whole
 
+pub returns-then-not-is_shown : goal.returns-then-not-is_shown
+returns-then-not-is_shown c =
+    let a = c.args in
+    let r = c.in_layout-registers in
+    let accept = sym c.in_ok-check_row.ensures.result_value in
+    outcome_accepted a.registers a.memory.now a.font.now a.frame a.n a.out.now c.in-Ok.ensures.1.long c.in-Ok-try_from.ensures.1.long
+    (rw (← r.ensures) accept)
+    (c.clear.ensures ∙ rw (accepted _ (rw r.ensures (grey_code a.registers)) _ _ _ _ accept).whole
+    (row_when r.result a.memory.now a.font.now a.frame a.n (sym c.is_shown.ensures ∙ c.if-not-is_shown.true) ∙ rw r.ensures))
+
 pub returns : goal.returns
 returns c =
     let a = c.args in
+    let r = c.in_layout-registers in
     let memory = c.in-Ok.ensures.1 in
     let font = c.in-Ok-try_from.ensures.1 in
     outcome_accepted a.registers a.memory.now a.font.now a.frame a.n a.out.now memory.long font.long
-    (rw (← c.in_layout-registers.ensures) (sym c.in_ok-check_row.ensures.result_value))
-    (c.draw.ensures ∙ rw (c.in_layout-registers.ensures, memory.same, font.same))
+    (rw (← r.ensures) (sym c.in_ok-check_row.ensures.result_value))
+    (c.draw.ensures ∙ row_when _ _ _ _ _ (sym c.is_shown.ensures ∙ c.if-not-is_shown.false) ∙ rw (r.ensures, memory.same, font.same))

@@ -3,7 +3,7 @@ ghost use Rattle.row.specs.Stages.{Composable};
 
 use registers::{FONT_SIZE, MEMORY_SIZE, Registers};
 
-// Registers that a row passed the tests of, with memory and font of their sizes.
+// The registers of a row that is not refused, with memory and font of their sizes.
 #[derive(Clone, Copy)]
 pub(crate) struct Scene<'a> {
     pub registers: Registers,

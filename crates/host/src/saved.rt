@@ -84,7 +84,8 @@ fn registers(s: &[u8; 48]) -> Registers
     }
 }
 
-// The controller that bytes are a saved form of, where they are one.
+// The controller that bytes are a saved form of, where they are one. Inlined, so that a call that needs the registers alone stores none.
+#[inline(always)]
 #[tactic(auto, unfolding(crate::specs::Saved::is_saved, crate::specs::Saved::controller_of))]
 pub fn read(bytes: &[u8]) -> Option<Controller>
     ensures { result ≡ saved_controller bytes.now }

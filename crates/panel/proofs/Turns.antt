@@ -8,54 +8,40 @@ use native.Mathlib.Omega.{arith}
 use lib.ListN.{length}
 use lib.Seq.{length-take-le}
 use Rattle.session.specs.declared.Step.{Step}
-use Rattle.session.specs.Output.{buffer, flushes, OpenAfter}
+use Rattle.session.specs.Output.{buffer_of, flushes, OpenAfter}
 use Rattle.session.specs.File.{Progress, progress, next_step, step_lines}
 use Rattle.session.specs.Reading.{SoFar, Ran}
 use Rattle.session.proofs.Reading.{placed, turn_more, place_within}
-use Rattle.panel.specs.declared.Run.{Run}
+use Rattle.panel.specs.declared.reading.Input.{Input}
 use Rattle.panel.specs.Reading.{InPart, at_hand, Filled, Done}
 
-module _ (font input input' memory memory' out out' file : List ℕ) (run r : Run) (s : Step) (filled : Filled run input r input') (part : file ≡ at_hand r input')
-    (done : progress s memory' out' ≡ next_step font file (progress r.step memory out))
-    (opened : OpenAfter r.step.session.output.open (flushes (buffer out r.step.session.output.used) (step_lines font file (progress r.step memory out)))
-    s.session.output.open) where
+module _ {P R : Type 0} (font file : List ℕ) (step s : Step P) (input input' : Input R) (at : ℕ) (filled : Filled step.at input at input') (part : file ≡ at_hand input')
+    (done : progress s ≡ next_step font file (placed at (progress step)))
+    (opened : OpenAfter step.session.output.open (flushes (buffer_of step.session.output) (step_lines font file (placed at (progress step)))) s.session.output.open) where
   -- the step from the place to which the file was read on
-  stepped : progress s memory' out' ≡ next_step font (at_hand r input') (placed r.step.at (progress run.step memory out))
-  stepped =
-      done ∙ ap (λ (l : List ℕ). next_step font l (progress r.step memory out)) part
-      ∙ ap (λ (x : Step). next_step font (at_hand r input') (progress x memory out)) filled.same
+  stepped : progress s ≡ next_step font (at_hand input') (placed at (progress step))
+  stepped = done ∙ ap (λ (l : List ℕ). next_step font l (placed at (progress step))) part
 
   -- and what it does to the output
-  reopened : OpenAfter run.step.session.output.open
-      (flushes (buffer out run.step.session.output.used) (step_lines font (at_hand r input') (placed r.step.at (progress run.step memory out))))
-      s.session.output.open
-  reopened =
-      subst (λ (x : Step). OpenAfter x.session.output.open (flushes (buffer out x.session.output.used) (step_lines font (at_hand r input') (progress x memory out))) s.session.output.open)
-      filled.same
-      (subst (λ (l : List ℕ). OpenAfter r.step.session.output.open (flushes (buffer out r.step.session.output.used) (step_lines font l (progress r.step memory out))) s.session.output.open)
-      part opened)
+  reopened : OpenAfter step.session.output.open (flushes (buffer_of step.session.output) (step_lines font (at_hand input') (placed at (progress step)))) s.session.output.open
+  reopened = rw part at opened
 
-  turn_done : (start : Progress) (k : ℕ) → Done font start k run memory out input → Done font start (suc k) (record { step = s; part = r.part }) memory' out' input'
+  pub turn_done : (start : Progress) (k : ℕ) → Done font start k step input → Done font start (suc k) s input'
   turn_done start k h =
-      subst (λ (p : Progress). SoFar font start (suc k) p s.session.output.open (at_hand r input') r.part.ended) (sym stepped)
-      (turn_more font start k (progress run.step memory out) (at_hand run input) (at_hand r input') r.step.at run.step.session.output.open s.session.output.open
-      run.part.ended r.part.ended h filled.reads reopened)
+      subst (λ (p : Progress). SoFar font start (suc k) p s.session.output.open (at_hand input') input'.ended) (sym stepped)
+      (turn_more font start k (progress step) (at_hand input) (at_hand input') at step.session.output.open s.session.output.open
+      input.ended input'.ended h filled.reads reopened)
 
-  turn_inside : InPart (record { step = s; part = r.part }) input'
+  pub turn_inside : InPart s.at input'
   turn_inside =
-      let size = length-take-le r.part.filled input' filled.inside.part in
-      let start : r.step.at ≤ length (at_hand r input') = omega (arith, size, filled.inside.place) in
-      let within = place_within font (at_hand r input') (placed r.step.at (progress run.step memory out)) start in
+      let size = length-take-le input'.filled input'.buffer.now filled.inside.part in
+      let start : at ≤ length (at_hand input') = omega (arith, size, filled.inside.place) in
+      let within = place_within font (at_hand input') (placed at (progress step)) start in
       record {
         place = omega (arith, within, size, ap (λ (p : Progress). p.at) stepped);
         part = filled.inside.part;
         roomy = filled.inside.roomy;
       }
-
-  -- the turn is inside its part, and does one step more
-  pub turned : InPart (record { step = s; part = r.part }) input'
-      × ((start : Progress) (k : ℕ) → Done font start k run memory out input → Done font start (suc k) (record { step = s; part = r.part }) memory' out' input')
-  turned = (turn_inside, turn_done)
 
 -- no step is done
 pub started : (font : List ℕ) (start p : Progress) (takes : Bool) (part : List ℕ) (ended : Bool) → p ≡ start → takes ≡ true → SoFar font start 0 p takes part ended
@@ -63,12 +49,12 @@ started font start p takes part ended e f =
     record { before = []; reached = λ after last. sym e ∙ ap (λ (at : ℕ). placed at p) (omega arith); stays = λ after last. inl f }
 
 -- the file is what was read
-pub ran : (font : List ℕ) (start : Progress) (k turns : ℕ) (run : Run) (memory out input : List ℕ) → Done font start k run memory out input
-    → (run.step.more ≡ false) ⊎ ((run.step.session.output.open ≡ false) ⊎ (k ≡ turns))
-    → Ran font start turns (progress run.step memory out) run.step.session.output.open
-ran font start k turns run memory out input done stopped =
+pub ran : {P R : Type 0} (font : List ℕ) (start : Progress) (k turns : ℕ) (step : Step P) (input : Input R) → Done font start k step input
+    → (step.more ≡ false) ⊎ ((step.session.output.open ≡ false) ⊎ (k ≡ turns))
+    → Ran font start turns (progress step) step.session.output.open
+ran font start k turns step input done stopped =
     record {
-      file = done.before ++ (at_hand run input ++ []);
+      file = done.before ++ (at_hand input ++ []);
       count = k;
       past = length done.before;
       ran = done.reached [] (λ _. refl);

@@ -1,50 +1,63 @@
 -- Reference, 'The program': what the program's functions promise. A file is read in parts, its records are carried out, and a line ends the output.
-use Rattle.std.specs.Prelude.{ℕ, ◌≤◌, ◌-◌, ◌^◌, Bool, true, false, List, ◌≡◌, length, take, replicate}
+use Rattle.std.specs.Prelude.{ℕ, ◌≤◌, ◌-◌, ◌^◌, Bool, true, false, ltb, List, ◌≡◌, length, take, replicate}
 use Rattle.registers.specs.Sizes.{memory_size}
 use Rattle.model.specs.Refresh.{All, Byte}
 use Rattle.busfile.specs.Parts.{longest_record}
-use Rattle.lines.specs.Lines.{end_line}
-use Rattle.session.specs.declared.Output.{Output}
+use Rattle.lines.specs.Lines.{end_line, longest_line}
 use Rattle.session.specs.declared.Step.{Step}
 use Rattle.session.specs.Output.{printed, OpenAfter}
+use Rattle.session.specs.Records.{lent}
 use Rattle.session.specs.File.{Progress, progress, start_of}
 use Rattle.session.specs.Program.{PrintsAll}
 use Rattle.session.specs.Reading.{SoFar, ReadsOn, Ran}
-use Rattle.panel.specs.declared.Run.{Run}
+use Rattle.panel.specs.declared.reading.Input.{Input}
 
--- the step's place is in the part, and the part in a buffer that has room for the longest record
-pub record InPart (run : Run) (input : List ℕ) : Type 0 where
-  pub place : run.step.at ≤ run.part.filled
-  pub part : run.part.filled ≤ length input
-  pub roomy : longest_record ≤ length input
+-- a place is in the part, and the part in a buffer that has room for the longest record
+pub record InPart {R : Type 0} (at : ℕ) (input : Input R) : Type 0 where
+  pub place : at ≤ input.filled
+  pub part : input.filled ≤ length input.buffer.now
+  pub roomy : longest_record ≤ length input.buffer.now
 
 -- the bytes of the file that are at hand
-abbrev pub at_hand : Run → List ℕ → List ℕ
-at_hand run input = take run.part.filled input
+abbrev pub at_hand : {R : Type 0} → Input R → List ℕ
+at_hand input = take input.filled input.buffer.now
 
--- a step at another place
-abbrev pub at : ℕ → Step → Step
-at place s = record { session = s.session; at = place; good = s.good; more = s.more }
+-- the buffer is read behind its first bytes, and the file has ended where that does not fill it
+pub record ReadBehind {R : Type 0} (kept : ℕ) (input input' : Input R) : Type 0 where
+  pub behind : kept ≤ input'.filled
+  pub part : input'.filled ≤ length input'.buffer.now
+  pub room : length input'.buffer.now ≡ length input.buffer.now
+  pub stays : take kept input'.buffer.now ≡ take kept input.buffer.now
+  pub ends : input'.ended ≡ ltb input'.filled (length input'.buffer.now)
 
--- the file is read on
-pub record Filled (run : Run) (input : List ℕ) (r : Run) (input' : List ℕ) : Type 0 where
-  pub reads : ReadsOn (at_hand run input) run.step.at run.part.ended (at_hand r input') r.step.at r.part.ended
-  pub same : r.step ≡ at r.step.at run.step
-  pub inside : InPart r input'
+-- the file is read on, and a place in it is then another
+pub record Filled {R : Type 0} (at : ℕ) (input : Input R) (at' : ℕ) (input' : Input R) : Type 0 where
+  pub reads : ReadsOn (at_hand input) at input.ended (at_hand input') at' input'.ended
+  pub inside : InPart at' input'
 
 -- k steps are done of the file
-abbrev pub Done : List ℕ → Progress → ℕ → Run → List ℕ → List ℕ → List ℕ → Type 0
-Done font start k run memory out input =
-    SoFar font start k (progress run.step memory out) run.step.session.output.open (at_hand run input) run.part.ended
+abbrev pub Done : {P R : Type 0} → List ℕ → Progress → ℕ → Step P → Input R → Type 0
+Done font start k step input =
+    SoFar font start k (progress step) step.session.output.open (at_hand input) input.ended
+
+-- nothing is read and no step is done: reset beside cleared memory, and buffers that have room for the longest record and the longest line
+pub record Fresh {P R : Type 0} (step : Step P) (input : Input R) : Type 0 where
+  pub begun : progress step ≡ start_of (replicate memory_size 0) step.session.output.lines.buffer.now
+  pub takes : step.session.output.open ≡ true
+  pub room : longest_line ≤ length step.session.output.lines.buffer.now
+  pub unread : input.filled ≡ 0
+  pub goes_on : input.ended ≡ false
+  pub roomy : longest_record ≤ length input.buffer.now
 
 -- a file is run from reset beside cleared memory: its records are carried out; then the last line stands behind theirs, and nothing is held any more
-pub record RunsFile (font out : List ℕ) (o : Output) (memory' out' : List ℕ) : Type 0 where
+pub record RunsFile {P : Type 0} (step step' : Step P) : Type 0 where
   pub last : Progress
   pub takes : Bool
-  pub ran : Ran font (start_of (replicate memory_size 0) out) (2 ^ 64 - 1) last takes
-  pub memory_left : last.state.machine.memory ≡ memory'
-  pub ends : (printed last.state.output (end_line last.good)).bytes ≡ out'
-  pub nothing_held : o.used ≡ 0
-  pub stays : OpenAfter takes true o.open
+  pub ran : Ran step.session.font.now (start_of (replicate memory_size 0) step.session.output.lines.buffer.now) (2 ^ 64 - 1) last takes
+  pub memory_left : last.state.machine.memory ≡ step'.session.memory.now
+  pub ends : (printed last.state.output (end_line last.good)).bytes ≡ step'.session.output.lines.buffer.now
+  pub nothing_held : step'.session.output.lines.used ≡ 0
+  pub stays : OpenAfter takes true step'.session.output.open
+  pub same : lent step'.session ≡ lent step.session
   -- so a file that stopped is printed whole
-  pub whole : last.more ≡ false → All Byte ran.file → PrintsAll font ran.file out last
+  pub whole : last.more ≡ false → All Byte ran.file → PrintsAll step.session.font.now ran.file step.session.output.lines.buffer.now last

@@ -1,97 +1,47 @@
 // All records of a file, in turn.
-ghost use Rattle.std.specs.Prelude.{ℕ, suc, ◌≤◌, ◌-◌, ◌^◌, ◌≡◌, length, replicate};
-ghost use Rattle.registers.specs.Sizes.{memory_size};
-ghost use Rattle.busfile.specs.Parts.{longest_record};
-ghost use Rattle.lines.specs.Lines.{longest_line};
-ghost use Rattle.session.specs.File.{Progress, progress, start_of};
+ghost use Rattle.std.specs.Prelude.{ℕ, suc, ◌-◌, ◌^◌, ◌≡◌};
+ghost use Rattle.session.specs.File.{Progress, progress};
 ghost use Rattle.session.specs.Reading.{Ran};
-ghost use Rattle.panel.specs.Reading.{InPart, Done, RunsFile};
+ghost use Rattle.session.specs.Records.{lent};
+ghost use Rattle.panel.specs.Reading.{InPart, Done, Fresh, RunsFile};
 
-use crate::reading::fill;
-use crate::{Part, Run};
-use registers::MEMORY_SIZE;
-use session::{Output, Step};
+use crate::reading::Input;
+use session::Step;
 use std::io::Read;
 
-// Cleared display memory.
-pub fn display_memory() -> [u8; MEMORY_SIZE]
-    ensures { result ≡ replicate memory_size 0 }
-{
-    [0; MEMORY_SIZE]
-}
-
 // Reads on, and carries the next record out.
-fn turn(
-    rt: &impl Print,
-    stdin: &mut impl Read,
-    run: Run,
-    memory: &mut [u8],
-    font: &[u8],
-    input: &mut [u8],
-    out: &mut [u8],
-) -> Run
-    requires { InPart run input.old }
-    ensures in_part { InPart result input.new }
+fn turn(step: &mut Step<'_, '_, impl Print>, input: &mut Input<'_, impl Read>)
+    requires { InPart step.old.at input.old }
+    ensures in_part { InPart step.new.at input.new }
     ensures done { (start : Progress) (k : ℕ)
-        → Done font.now start k run memory.old out.old input.old
-        → Done font.now start (suc k) result memory.new out.new input.new }
+        → Done step.old.session.font.now start k step.old input.old
+        → Done step.old.session.font.now start (suc k) step.new input.new }
+    ensures lent { lent step.new.session ≡ lent step.old.session }
 {
-    let run = fill(stdin, run, input);
-    let part = run.part;
-    let file = busfile::part(input, 0, part.filled);
-    Run {
-        step: session::next(rt, run.step, memory, font, out, file),
-        part: part,
-    }
+    step.at = input.read_on(step.at);
+    step.next(input.at_hand());
 }
 
 // All records; a closed output stops the file. The count of turns, which no run uses up, is there so that the loop is seen to end.
-fn run_records(
-    rt: &impl Print,
-    stdin: &mut impl Read,
-    memory: &mut [u8],
-    font: &[u8],
-    input: &mut [u8],
-    out: &mut [u8],
-) -> Step
-    requires { longest_record ≤ length input.old }
-    ensures { Ran font.now (start_of memory.old out.old) (2 ^ 64 - 1)
-        (progress result memory.new out.new) result.session.output.open }
+fn run_records(step: &mut Step<'_, '_, impl Print>, input: &mut Input<'_, impl Read>)
+    requires { Fresh step.old input.old }
+    ensures ran { Ran step.old.session.font.now (progress step.old) (2 ^ 64 - 1) (progress step.new)
+        step.new.session.output.open }
+    ensures lent { lent step.new.session ≡ lent step.old.session }
 {
-    let mut run = Run {
-        step: session::start(),
-        part: Part {
-            filled: 0,
-            ended: false,
-        },
-    };
-    let mut turns = u64::MAX;
-    while turns > 0 {
-        turns -= 1;
-        run = turn(rt, stdin, run, memory, font, input, out);
-        let step = run.step;
-        if step.more {
-            if step.session.output.open {
-                continue;
-            }
+    for _ in 0..u64::MAX {
+        turn(step, input);
+        if !(step.more && step.session.output.open) {
+            break;
         }
-        return step;
     }
-    run.step
 }
 
 // All records, and the line that ends the output.
-pub fn run_file(
-    rt: &impl Print,
-    stdin: &mut impl Read,
-    memory: &mut [u8],
-    font: &[u8],
-    input: &mut [u8],
-    out: &mut [u8],
-) -> Output
-    requires { (longest_record ≤ length input.old) × (longest_line ≤ length out.old) × (memory.old ≡ replicate memory_size 0) }
-    ensures { RunsFile font.now out.old result memory.new out.new }
+pub fn run_file(step: &mut Step<'_, '_, impl Print>, input: &mut Input<'_, impl Read>)
+    requires { Fresh step.old input.old }
+    ensures { RunsFile step.old step.new }
 {
-    let last = run_records(rt, stdin, memory, font, input, out);
-    session::finish(rt, last, out)
+    run_records(step, input);
+    step.finish();
 }

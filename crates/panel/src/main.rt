@@ -4,34 +4,19 @@
 mod file;
 mod reading;
 
+use reading::Input;
+use registers::{FONT_SIZE, MEMORY_SIZE};
 use session::Step;
 
-// Of the file, the first bytes of the input buffer, up to filled, are at hand; ended says that no more come.
-#[derive(Clone, Copy)]
-struct Part {
-    filled: usize,
-    ended: bool,
-}
-
-// A step, and the part of the file in which its place is.
-#[derive(Clone, Copy)]
-struct Run {
-    step: Step,
-    part: Part,
-}
-
 fn main(rt: HostRuntime) {
-    let mut memory = file::display_memory();
-    let mut font = reading::font_buffer();
-    let mut input = reading::input_buffer();
-    let mut out = reading::output_buffer();
+    let mut memory = [0u8; MEMORY_SIZE];
+    // A byte more than a font: a longer file is none.
+    let mut font = [0u8; FONT_SIZE + 1];
+    // Room for two records of any length, and for the lines that wait to be written out.
+    let mut buffer = [0u8; 131072];
+    let mut out = [0u8; 65536];
     let size = reading::read_font(&rt, &mut font);
-    file::run_file(
-        &rt,
-        &mut rt.stdin(),
-        &mut memory,
-        busfile::part(&font, 0, size),
-        &mut input,
-        &mut out,
-    );
+    let mut step = Step::start(&rt, &mut memory, busfile::part(&font, 0, size), &mut out);
+    let mut input = Input::new(rt.stdin(), &mut buffer);
+    file::run_file(&mut step, &mut input);
 }

@@ -1,35 +1,18 @@
 // The font, and a bus file from standard input. It is read in parts, so that a file of any length runs in the same memory.
-ghost use Rattle.std.specs.Prelude.{◌+◌, ◌≤◌, ◌≡◌, length, take};
-ghost use Rattle.registers.specs.Sizes.{font_size};
-ghost use Rattle.panel.specs.Reading.{InPart, Filled};
+ghost use Rattle.std.specs.Prelude.{◌≤◌, ◌≡◌, false, length};
+ghost use Rattle.panel.specs.Reading.{InPart, at_hand, ReadBehind, Filled};
 
-use crate::Run;
-use registers::FONT_SIZE;
 use std::fs;
 use std::io::Read;
 use std::rt::Files;
 
-const FONT_ROOM: usize = FONT_SIZE + 1;
-
-// Room for a font and a byte more: a longer file is no font.
-pub fn font_buffer() -> [u8; FONT_ROOM]
-    ensures { font_size + 1 ≡ length result }
-{
-    [0; FONT_ROOM]
-}
-
-// Room for two records of any length.
-pub fn input_buffer() -> [u8; 131072]
-    ensures { 131072 ≡ length result }
-{
-    [0; 131072]
-}
-
-// Room for the lines that wait to be written out.
-pub fn output_buffer() -> [u8; 65536]
-    ensures { 65536 ≡ length result }
-{
-    [0; 65536]
+// A bus file that is read in parts: its bytes at hand are the first of the buffer, up to filled; ended says that no more come.
+#[derive(Drop)]
+pub struct Input<'b, R> {
+    reader: R,
+    buffer: &'b mut [u8],
+    filled: usize,
+    ended: bool,
 }
 
 // Reads until the buffer is full, the input ends or a read fails, and answers how many bytes came. The count of turns, which
@@ -43,9 +26,8 @@ fn read_full(reader: &mut impl Read, buffer: &mut [u8]) -> usize
             break;
         }
         match reader.read(&mut buffer[done..]) {
-            Ok(0) => break,
+            Ok(0) | Err(_) => break,
             Ok(n) => done += n,
-            Err(_) => break,
         }
     }
     done
@@ -62,39 +44,46 @@ pub fn read_font(rt: &impl Files, font: &mut [u8]) -> usize
     }
 }
 
-// Reads behind the first bytes until the input is full or ends, and answers how many bytes it then has.
-fn read_on(stdin: &mut impl Read, input: &mut [u8], kept: usize) -> usize
-    requires { kept ≤ length input.old }
-    ensures lower_bound { kept ≤ result }
-    ensures upper_bound { result ≤ length input.old }
-    ensures input_unchanged { take kept input.new ≡ take kept input.old }
-{
-    let size = input.len();
-    let more = read_full(stdin, &mut input[kept..]);
-    if more < size - kept {
-        return kept + more;
+impl<'b, R: Read> Input<'b, R> {
+    pub fn new(reader: R, buffer: &'b mut [u8]) -> Input<'b, R>
+        ensures buffer { result.buffer.now ≡ buffer.old }
+        ensures unread { (result.filled ≡ 0) × (result.ended ≡ false) }
+    {
+        Input {
+            reader,
+            buffer,
+            filled: 0,
+            ended: false,
+        }
     }
-    size
-}
 
-// Reads on, unless the longest record would be whole.
-pub fn fill(stdin: &mut impl Read, mut run: Run, input: &mut [u8]) -> Run
-    requires { InPart run input.old }
-    ensures { Filled run input.old result input.new }
-{
-    if run.part.ended {
-        return run;
+    pub fn at_hand(&self) -> &[u8]
+        ensures { result.now ≡ at_hand self.now }
+    {
+        busfile::part(self.buffer, 0, self.filled)
     }
-    let at = run.step.at;
-    let filled = run.part.filled;
-    if busfile::suffices(busfile::part(input, 0, filled), at) {
-        return run;
+
+    // Reads behind the first bytes until the buffer is full or the file ends.
+    fn read_behind(&mut self, kept: usize)
+        requires { kept ≤ length self.old.buffer.now }
+        ensures { ReadBehind kept self.old self.new }
+    {
+        let size = self.buffer.len();
+        self.filled = kept + read_full(&mut self.reader, &mut self.buffer[kept..]);
+        self.ended = self.filled < size;
     }
-    let kept = busfile::compact(input, at, filled);
-    let total = read_on(stdin, input, kept);
-    run.step.at = 0;
-    run.part.filled = total;
-    let ended = total < input.len();
-    run.part.ended = ended;
-    run
+
+    // Reads on from a place, unless the longest record there would be whole, and answers where the place is then.
+    pub fn read_on(&mut self, at: usize) -> usize
+        requires { InPart at self.old }
+        ensures { Filled at self.old result self.new }
+    {
+        if self.ended || busfile::suffices(self.at_hand(), at) {
+            return at;
+        }
+        let filled = self.filled;
+        let kept = busfile::compact(self.buffer, at, filled);
+        self.read_behind(kept);
+        0
+    }
 }

@@ -1,7 +1,7 @@
 -- Lines in the output's buffer.
 use Rattle.std.proofs.Common.{◌≡◌, ℕ, Bool, true, false, ◌||◌, List, [], ◌∷◌, ◌++◌, sym, refl, ap, ◌∙◌, inl, inr}
 use Rattle.session.specs.declared.Output.{Output}
-use Rattle.session.specs.Output.{Buffer, buffer, is_full, printed, printed_all, flushes, OpenAfter, Prints}
+use Rattle.session.specs.Output.{Buffer, buffer_of, is_full, printed, printed_all, flushes, OpenAfter, Prints}
 
 pub printed_both : (b : Buffer) (xs ys : List (List ℕ)) → printed_all b (xs ++ ys) ≡ printed_all (printed_all b xs) ys
 printed_both b [] ys = refl
@@ -29,13 +29,14 @@ flushes_both b (x ∷ xs) ys = ap (λ (w : Bool). is_full b || w) (flushes_both 
 
 -- Lines that are printed
 
-pub prints_none : (o : Output) (bytes : List ℕ) → Prints [] o bytes o bytes
-prints_none o bytes = record { text = refl; stays = inl refl }
+pub prints_none : {P : Type 0} (o : Output P) → Prints [] o o
+prints_none o = record { text = refl; stays = inl refl; same = refl }
 
 -- lines, and lines after them
-pub prints_both : (xs ys : List (List ℕ)) {o p q : Output} {a b c : List ℕ} → Prints xs o a p b → Prints ys p b q c → Prints (xs ++ ys) o a q c
-prints_both xs ys {o} {p} {q} {a} {b} {c} h k =
+pub prints_both : {P : Type 0} (xs ys : List (List ℕ)) {o p q : Output P} → Prints xs o p → Prints ys p q → Prints (xs ++ ys) o q
+prints_both xs ys {o} h k =
     record {
-      text = k.text ∙ rw h.text (sym (printed_both (buffer a o.used) xs ys));
+      text = k.text ∙ rw h.text (sym (printed_both (buffer_of o) xs ys));
       stays = rw flushes_both (open_both _ _ h.stays (rw h.text at k.stays));
+      same = k.same ∙ h.same;
     }

@@ -1,27 +1,35 @@
 -- Calls carried out one by one.
-use Rattle.std.proofs.Common.{◌≡◌, ℕ, suc, ◌+◌, ◌-◌, ◌<◌, ◌≤◌, Bool, List, [], ◌∷◌, ◌++◌, map, length, get_or, take, drop, replicate, sym, refl, ◌∙◌, subst, inl, append-nil, add-zero, add-one, arith, take-append-drop, length-drop, length-take-le, drop-cons, drop-drop}
+use Rattle.std.proofs.Common.{◌≡◌, ℕ, suc, ◌+◌, ◌-◌, ◌<◌, ◌≤◌, Bool, List, [], ◌∷◌, ◌++◌, map, length, get_or, take, drop, replicate, sym, refl, ap, ◌∙◌, subst, inl, append-nil, add-zero, add-one, arith, take-append-drop, length-drop, length-take-le, drop-cons, drop-drop}
 use Rattle.registers.specs.Refusals.{accepted}
 use Rattle.model.specs.Machine.{Machine, Outcome}
 use Rattle.model.specs.Calls.{BusCall, command, write, read, bus_calls, call, after, outcomes}
 use Rattle.model.specs.Refresh.{All}
 use Rattle.model.specs.WriteRun.{run_length, RunOutcome, run_outcome}
 use Rattle.model.proofs.WriteRuns.{run_within, run_accepted}
-use Rattle.session.specs.Output.{Buffer, printed_all, flushes, OpenAfter}
-use Rattle.session.specs.Records.{call_lines}
-use Rattle.session.specs.Carrying.{Live, CarriesOutCalls}
+use Rattle.session.specs.declared.Output.{Output}
+use Rattle.session.specs.declared.Session.{Session}
+use Rattle.session.specs.Output.{Buffer, printed_all, flushes, OpenAfter, Prints}
+use Rattle.session.specs.Records.{state, call_lines}
+use Rattle.session.specs.Carrying.{Live, live, CarriesOut, CarriesOutCalls}
 use Rattle.session.proofs.Buffers.{printed_both, flushes_both, open_both}
 
 abbrev moved : Live → Machine → Live
-moved s m = record { state = record { machine = m; output = s.state.output }; takes = s.takes }
+moved s m = record s { state = record { machine = m; output = s.state.output } }
 
 -- a call whose outcome is known and whose lines are printed
-pub one_call : (r k : ℕ) (s : Live) (c : BusCall) {w : Outcome} {o : Buffer} {takes : Bool} → w ≡ call s.state.machine c
+pub one_call : (r k : ℕ) (s : Live) (c : BusCall) {w : Outcome} {o : Buffer} {takes : Bool} {which : ℕ} → w ≡ call s.state.machine c
     → o ≡ printed_all s.state.output (call_lines r k c w.reply) → OpenAfter s.takes (flushes s.state.output (call_lines r k c w.reply)) takes
-    → CarriesOutCalls r k (c ∷ []) s (record { state = record { machine = w.machine; output = o }; takes = takes })
-one_call r k s c h e f = record { state = rw (e, h, append-nil); stays = rw (append-nil, ← h) f }
+    → which ≡ s.lent.buffer
+    → CarriesOutCalls r k (c ∷ []) s (record { state = record { machine = w.machine; output = o }; takes = takes; lent = record s.lent { buffer = which } })
+one_call r k s c h e f n =
+    record {
+      state = rw (e, h, append-nil);
+      stays = rw (append-nil, ← h) f;
+      same = ap (λ (which : ℕ). record s.lent { buffer = which }) n;
+    }
 
 pub no_calls : (r k : ℕ) (s : Live) (cs : List BusCall) → cs ≡ [] → CarriesOutCalls r k cs s s
-no_calls r k s cs e = rw e (record { state = refl; stays = inl refl })
+no_calls r k s cs e = rw e (record { state = refl; stays = inl refl; same = refl })
 
 -- a call, and those after it
 pub call_first : (r k : ℕ) (s : Live) (c : BusCall) (cs : List BusCall) {t u : Live} → CarriesOutCalls r k (c ∷ []) s t → CarriesOutCalls r (k + 1) cs t u
@@ -30,6 +38,25 @@ call_first r k s c cs h rest =
     record {
       state = rest.state ∙ rw (h.state, append-nil, printed_both);
       stays = rw flushes_both (open_both _ _ (rw append-nil at h.stays) (rw (h.state, append-nil) at rest.stays));
+      same = rest.same ∙ h.same;
+    }
+
+-- lines alone: those that an output prints, and lines after lines
+
+pub printed_lines : {P : Type 0} (s : Session P) {lines : List (List ℕ)} {o : Output P} → Prints lines s.output o → CarriesOut [] lines (live s) (live (record s { output = o }))
+printed_lines s h =
+    record {
+      state = ap (λ (b : Buffer). record { machine = (state s).machine; output = b }) h.text;
+      stays = h.stays;
+      same = ap (λ (n : ℕ). record { font = s.font.now; memory = s.memory.ghost_name; buffer = n }) h.same;
+    }
+
+pub lines_both : (xs ys : List (List ℕ)) {s t u : Live} → CarriesOut [] xs s t → CarriesOut [] ys t u → CarriesOut [] (xs ++ ys) s u
+lines_both xs ys h rest =
+    record {
+      state = rest.state ∙ rw (h.state, printed_both);
+      stays = rw flushes_both (open_both _ _ h.stays (rw h.state at rest.stays));
+      same = rest.same ∙ h.same;
     }
 
 -- one data byte more of a payload
@@ -49,7 +76,7 @@ writes_first r k s [] cs all rest = rw add-zero at rest
 writes_first r k s (b ∷ bs) cs all rest =
     let m = s.state.machine in
     call_first r k s (write b) (map write (bs ++ cs))
-    (one_call r k s (write b) refl (rw all.0) (rw all.0 (inl refl)))
+    (one_call r k s (write b) refl (rw all.0) (rw all.0 (inl refl)) refl)
     (writes_first r (k + 1) (moved s (call m (write b)).machine) bs cs all.1 (rw further at rest))
   where
     further : k + suc (length bs) ≡ k + 1 + length bs
@@ -78,12 +105,12 @@ pub command_first : (r : ℕ) (payload : List ℕ) (s : Live) {t u : Live} → 0
 command_first r [] s h e rest = absurd (omega arith)
 command_first r (b ∷ bs) s h e rest = call_first r 1 s (command b) (map write bs) e rest
 
--- one read more of a count
-pub read_more : (r i count : ℕ) (s : Live) {t u : Live} → i < count → CarriesOutCalls r (i + 1) (read ∷ []) s t
-    → CarriesOutCalls r (i + 1 + 1) (replicate (count - (i + 1)) read) t u → CarriesOutCalls r (i + 1) (replicate (count - i) read) s u
+-- one read more, numbered i of a count
+pub read_more : (r i count : ℕ) (s : Live) {t u : Live} → i ≤ count → CarriesOutCalls r i (read ∷ []) s t
+    → CarriesOutCalls r (i + 1) (replicate (count + 1 - (i + 1)) read) t u → CarriesOutCalls r i (replicate (count + 1 - i) read) s u
 read_more r i count s {u = u} h e rest =
-    subst (λ (n : ℕ). CarriesOutCalls r (i + 1) (replicate n read) s u) one_less
-    (call_first r (i + 1) s read (replicate (count - (i + 1)) read) e rest)
+    subst (λ (n : ℕ). CarriesOutCalls r i (replicate n read) s u) one_less
+    (call_first r i s read (replicate (count + 1 - (i + 1)) read) e rest)
   where
-    one_less : suc (count - (i + 1)) ≡ count - i
+    one_less : suc (count + 1 - (i + 1)) ≡ count + 1 - i
     one_less = omega arith

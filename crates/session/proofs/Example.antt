@@ -16,7 +16,7 @@ use Rattle.row.specs.Glyphs.{fetch, block_byte}
 use Rattle.row.specs.Layers.{is_text, sad, three_layers, split, halves, layer1, layer2, layer3}
 use Rattle.row.specs.Refusals.{grey_mode, smooth_scroll, odd_lines, layer_order, cursor_shape, row_refusal}
 use Rattle.row.specs.Rows.{row_answer}
-use Rattle.model.specs.Bus.{ignored, display_off, command_write, served, write_memory, write_parameter, data_write}
+use Rattle.model.specs.Bus.{ignored, display_off, take_command, command_write, served, write_memory, write_parameter, write_data, data_write}
 use Rattle.busfile.specs.Records.{word_of, double_word_of, shape_of, record_at}
 use Rattle.lines.specs.Lines.{ascii, digit, decimal_below, decimal, row_line}
 use Rattle.session.specs.File.{following}
@@ -36,5 +36,5 @@ file =
     ++ (1 ∷ 0 ∷ 1 ∷ 0 ∷ 0xFF ∷ [])
 
 worked_example : flatten (program_lines (replicate font_size 0) file) ≡ ascii "frame 9 0 8 2\n01011010\n00111100\nrefused 10 1 2\nend 10\n"
-unfolding flatten command_of next_address field in_layout begin store store_system store_display store_blocks store_form store_overlay direction_of with_low with_high allowed system_allows form_allows has_cursor inverted dots_per_column shown_columns width dot_of layer_byte column_dot composed_dot unscrolled_dot dot table dots is_on flashing is_lit fetch block_byte is_text sad three_layers split halves layer1 layer2 layer3 first_of mix grey_mode smooth_scroll odd_lines layer_order cursor_shape row_refusal row_answer ignored display_off command_write served write_memory write_parameter data_write word_of double_word_of shape_of record_at digit decimal_below decimal row_line following
+unfolding flatten command_of next_address field in_layout begin store store_system store_display store_blocks store_form store_overlay direction_of with_low with_high allowed system_allows form_allows has_cursor inverted dots_per_column shown_columns width dot_of layer_byte column_dot composed_dot unscrolled_dot dot table dots is_on flashing is_lit fetch block_byte is_text sad three_layers split halves layer1 layer2 layer3 first_of mix grey_mode smooth_scroll odd_lines layer_order cursor_shape row_refusal row_answer ignored display_off take_command command_write served write_memory write_parameter write_data data_write word_of double_word_of shape_of record_at digit decimal_below decimal row_line following
 worked_example = refl

@@ -1,7 +1,9 @@
 -- Every line of a record is short.
-use Rattle.std.proofs.Common.{◌≡◌, ℕ, zero, suc, ◌+◌, ◌^◌, ◌<◌, ◌≤◌, List, [], ◌∷◌, ◌++◌, length, get_or, drop, replicate, refl, arith, lit<, get_or-drop, eqb-true}
+use Rattle.std.proofs.Common.{◌≡◌, ℕ, not, Option, None, Some, zero, suc, ◌+◌, ◌^◌, ◌<◌, ◌≤◌, List, [], ◌∷◌, ◌++◌, length, get_or, drop, replicate, refl, arith, lit<, get_or-drop, eqb-true}
 use lib.ListN.{length-map, length-replicate}
+use Rattle.registers.specs.declared.Command.{Command}
 use Rattle.registers.specs.declared.Registers.{Registers}
+use Rattle.registers.specs.Commands.{command_of}
 use Rattle.choice.specs.Choice.{◌=?◌}
 use Rattle.choice.proofs.Cases.{choose}
 use Rattle.registers.specs.Refusals.{Reply}
@@ -11,7 +13,7 @@ use Rattle.row.specs.Dots.{dots}
 use Rattle.row.specs.Refusals.{row_refusal}
 use Rattle.row.specs.Rows.{RowAnswer, row_answer, frame_size}
 use Rattle.row.proofs.Accepting.{accepted_width}
-use Rattle.model.specs.Bus.{command_write, data_write, data_read, write_memory, write_parameter, read_memory, read_cursor}
+use Rattle.model.specs.Bus.{sized, served, take_command, command_write, write_data, data_write, read_data, data_read, write_memory, write_parameter, read_memory, read_cursor}
 use Rattle.model.specs.Calls.{BusCall, command, write, read, bus_calls, call}
 use Rattle.model.specs.Machine.{Machine, Outcome}
 use Rattle.model.specs.Refresh.{All, Byte}
@@ -28,11 +30,26 @@ use Rattle.session.specs.Stream.{Short, LinesShort}
 abbrev SmallRefusal : Outcome → Type 0
 SmallRefusal o = Byte o.reply.refusal
 
+taken_refusal : (o : Option Command) (m : Machine) (b : ℕ) → SmallRefusal (take_command o m b)
+unfolding take_command
+taken_refusal None m b = lit< tt
+taken_refusal (Some c) m b = search (choose SmallRefusal, lit<) depth 12
+
+written_refusal : (o : Option Command) (m : Machine) (b : ℕ) → SmallRefusal (write_data o m b)
+unfolding write_data write_memory write_parameter
+written_refusal None m b = lit< tt
+written_refusal (Some c) m b = search (choose SmallRefusal, lit<) depth 12
+
+read_refusal : (o : Option Command) (m : Machine) → SmallRefusal (read_data o m)
+unfolding read_data read_memory read_cursor
+read_refusal None m = lit< tt
+read_refusal (Some c) m = search (choose SmallRefusal, lit<) depth 12
+
 call_refusal : (m : Machine) (c : BusCall) → SmallRefusal (call m c)
-unfolding command_write data_write data_read write_memory write_parameter read_memory read_cursor
-call_refusal m (command b) = search (choose SmallRefusal, lit<) depth 12
-call_refusal m (write b) = search (choose SmallRefusal, lit<) depth 12
-call_refusal m read = search (choose SmallRefusal, lit<) depth 12
+unfolding command_write data_write data_read
+call_refusal m (command b) = taken_refusal (command_of b) m b
+call_refusal m (write b) = choose SmallRefusal (not (sized m)) _ _ (λ e. lit< tt) (λ e. written_refusal (served m.controller) m b)
+call_refusal m read = choose SmallRefusal (not (sized m)) _ _ (λ e. lit< tt) (λ e. read_refusal (served m.controller) m)
 
 row_refusal_lem : (r : Registers) (memory font n buffer : ℕ) → Byte (row_refusal r memory font n buffer)
 unfolding row_refusal

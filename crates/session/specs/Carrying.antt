@@ -4,26 +4,28 @@ use Rattle.model.specs.Calls.{BusCall}
 use Rattle.busfile.specs.declared.Kind.{Kind}
 use Rattle.session.specs.declared.Session.{Session}
 use Rattle.session.specs.Output.{flushes, OpenAfter}
-use Rattle.session.specs.Records.{State, state, carried_out, calls_lines, record_calls, record_lines}
+use Rattle.session.specs.Records.{State, Lent, state, lent, carried_out, calls_lines, record_calls, record_lines}
 
--- a state, and whether standard output takes bytes
+-- a state, whether standard output takes bytes, and what is lent
 pub record Live : Type 0 where
   pub state : State
   pub takes : Bool
+  pub lent : Lent
 
-abbrev pub live : Session → List ℕ → List ℕ → Live
-live s memory out = record { state = state s memory out; takes = s.output.open }
+abbrev pub live : {P : Type 0} → Session P → Live
+live s = record { state = state s; takes = s.output.open; lent = lent s }
 
 -- calls are carried out, and lines are printed
 pub record CarriesOut (calls : List BusCall) (lines : List (List ℕ)) (s t : Live) : Type 0 where
   pub state : t.state ≡ carried_out s.state calls lines
   pub stays : OpenAfter s.takes (flushes s.state.output lines) t.takes
+  pub same : t.lent ≡ s.lent
 
 -- calls that are numbered from k on are carried out, and their lines are printed
 abbrev pub CarriesOutCalls : ℕ → ℕ → List BusCall → Live → Live → Type 0
 CarriesOutCalls r k calls s t = CarriesOut calls (calls_lines r k s.state.machine calls) s t
 
 -- a record is carried out
-abbrev pub CarriesOutRecord : ℕ → List ℕ → Kind → List ℕ → Live → Live → Type 0
-CarriesOutRecord r font kind payload s t =
-    CarriesOut (record_calls kind payload) (record_lines r s.state.machine font kind payload) s t
+abbrev pub CarriesOutRecord : ℕ → Kind → List ℕ → Live → Live → Type 0
+CarriesOutRecord r kind payload s t =
+    CarriesOut (record_calls kind payload) (record_lines r s.state.machine s.lent.font kind payload) s t

@@ -18,9 +18,9 @@ pub record Progress : Type 0 where
   pub good : ℕ
   pub more : Bool
 
--- the progress that a step stands for, with memory and output buffer as they are
-abbrev pub progress : Step → List ℕ → List ℕ → Progress
-progress s memory out = record { state = state s.session memory out; at = s.at; good = s.good; more = s.more }
+-- the progress that a step stands for
+abbrev pub progress : {P : Type 0} → Step P → Progress
+progress s = record { state = state s.session; at = s.at; good = s.good; more = s.more }
 
 -- a program starts from reset, beside memory and an output buffer
 abbrev pub start_of : List ℕ → List ℕ → Progress

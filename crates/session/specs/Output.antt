@@ -12,6 +12,9 @@ pub record Buffer : Type 0 where
 abbrev pub buffer : List ℕ → ℕ → Buffer
 buffer bytes used = record { bytes = bytes; used = used }
 
+abbrev pub buffer_of : {P : Type 0} → Output P → Buffer
+buffer_of o = buffer o.lines.buffer.now o.lines.used
+
 -- there is less room than for the longest line
 abbrev pub is_full : Buffer → Bool
 is_full b = length b.bytes <? b.used + longest_line
@@ -37,7 +40,8 @@ flushes b (line ∷ lines) = is_full b || flushes (printed b line) lines
 abbrev pub OpenAfter : Bool → Bool → Bool → Type 0
 OpenAfter before written after = (after ≡ before) ⊎ ((written ≡ true) × (after ≡ false))
 
--- lines are printed
-pub record Prints (lines : List (List ℕ)) (o : Output) (bytes : List ℕ) (o' : Output) (bytes' : List ℕ) : Type 0 where
-  pub text : buffer bytes' o'.used ≡ printed_all (buffer bytes o.used) lines
-  pub stays : OpenAfter o.open (flushes (buffer bytes o.used) lines) o'.open
+-- lines are printed, into the same buffer
+pub record Prints {P : Type 0} (lines : List (List ℕ)) (o o' : Output P) : Type 0 where
+  pub text : buffer_of o' ≡ printed_all (buffer_of o) lines
+  pub stays : OpenAfter o.open (flushes (buffer_of o) lines) o'.open
+  pub same : o'.lines.buffer.ghost_name ≡ o.lines.buffer.ghost_name

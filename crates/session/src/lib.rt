@@ -6,28 +6,31 @@ mod frames;
 mod printing;
 mod run;
 
-pub use file::{finish, next, start};
+use lines::Lines;
 use model::Controller;
 use registers::Count;
 
-// How many bytes of the output buffer are used, and whether standard output still takes them.
-#[derive(Clone, Copy)]
-pub struct Output {
-    pub used: usize,
+// Standard output behind a buffer: the lines that wait, and whether the output still takes them.
+#[derive(Drop)]
+pub struct Output<'r, 'w, P> {
+    pub rt: &'r P,
+    pub lines: Lines<'w>,
     pub open: bool,
 }
 
-// The controller, and how far its output is.
-#[derive(Clone, Copy)]
-pub struct Session {
+// A controller beside its memory and font, and its output.
+#[derive(Drop)]
+pub struct Session<'r, 'w, P> {
     pub controller: Controller,
-    pub output: Output,
+    pub memory: &'w mut [u8],
+    pub font: &'r [u8],
+    pub output: Output<'r, 'w, P>,
 }
 
 // How far a file is: where the next record stands, how many were good, and whether the file goes on.
-#[derive(Clone, Copy)]
-pub struct Step {
-    pub session: Session,
+#[derive(Drop)]
+pub struct Step<'r, 'w, P> {
+    pub session: Session<'r, 'w, P>,
     pub at: usize,
     pub good: u64,
     pub more: bool,

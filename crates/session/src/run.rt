@@ -1,160 +1,68 @@
 // Records carried out on a controller.
-ghost use Rattle.std.specs.Prelude.{ℕ, ◌<◌, List, [], ◌∷◌, map, length, drop, replicate};
+ghost use Rattle.std.specs.Prelude.{◌<◌, [], ◌∷◌, map, length, drop, replicate};
 ghost use Rattle.model.specs.Calls.{command, write, read, bus_calls};
 ghost use Rattle.session.specs.Carrying.{live, CarriesOutCalls, CarriesOutRecord};
 
 use crate::Session;
-use crate::frames::show;
-use crate::printing::{print_answer, print_read};
 use busfile::Kind;
-use model::Written;
-use registers::Answer;
 
-// The command byte of a kind 1 record.
-fn run_command(rt: &impl Print, s: Session, out: &mut [u8], b: u8, record: u64) -> Session
-    ensures { (memory : List ℕ) → CarriesOutCalls «record» 1 (command b ∷ [])
-        (live s memory out.old) (live result memory out.new) }
-{
-    let controller = s.controller;
-    let written = controller.command_write(b);
-    let controller = written.controller;
-    let answer = written.answer;
-    Session {
-        controller: controller,
-        output: print_answer(rt, s.output, out, answer, record, 1),
+impl<P: Print> Session<'_, '_, P> {
+    // The command byte of a kind 1 record.
+    fn run_command(&mut self, b: u8, record: u64)
+        ensures { CarriesOutCalls «record» 1 (command b ∷ []) (live self.old) (live self.new) }
+    {
+        let answer = self.controller.command_write(b);
+        self.output.print_answer(answer, record, 1);
     }
-}
 
-// The bytes of a kind 1 record behind its command byte. The first of them that go into memory print nothing, and are written as one run.
-fn run_data(
-    rt: &impl Print,
-    s: Session,
-    memory: &mut [u8],
-    out: &mut [u8],
-    payload: &[u8],
-    record: u64,
-) -> Session
-    requires { 0 < length payload.now }
-    ensures { CarriesOutCalls «record» 2 (map write (drop 1 payload.now))
-        (live s memory.old out.old) (live result memory.new out.new) }
-{
-    let controller = s.controller;
-    let run = controller.write_run(memory, &payload[1..]);
-    let controller = run.controller;
-    let mut written = Written {
-        controller: controller,
-        answer: Answer::Accepted,
-    };
-    let mut o = s.output;
-    let mut i = 1 + run.length;
-    while i < payload.len() {
-        let b = payload[i];
-        i += 1;
-        let controller = written.controller;
-        written = controller.data_write(memory, b);
-        let answer = written.answer;
-        o = print_answer(rt, o, out, answer, record, i as u64);
+    // The bytes of a kind 1 record behind its command byte. The first of them that go into memory print nothing, and are written as one run.
+    fn run_data(&mut self, payload: &[u8], record: u64)
+        requires { 0 < length payload.now }
+        ensures { CarriesOutCalls «record» 2 (map write (drop 1 payload.now))
+            (live self.old) (live self.new) }
+    {
+        let length = self.controller.write_run(self.memory, &payload[1..]);
+        for i in 1 + length..payload.len() {
+            let answer = self.controller.data_write(self.memory, payload[i]);
+            self.output.print_answer(answer, record, i as u64 + 1);
+        }
     }
-    let controller = written.controller;
-    Session {
-        controller: controller,
-        output: o,
-    }
-}
 
-// A command byte, then its data writes.
-fn run_bus(
-    rt: &impl Print,
-    s: Session,
-    memory: &mut [u8],
-    out: &mut [u8],
-    payload: &[u8],
-    record: u64,
-) -> Session
-    ensures { CarriesOutCalls «record» 1 (bus_calls payload.now)
-        (live s memory.old out.old) (live result memory.new out.new) }
-{
-    if payload.len() == 0 {
-        return s;
+    // A command byte, then its data writes.
+    fn run_bus(&mut self, payload: &[u8], record: u64)
+        ensures { CarriesOutCalls «record» 1 (bus_calls payload.now) (live self.old) (live self.new) }
+    {
+        if let Some(command) = payload.first() {
+            self.run_command(*command, record);
+            self.run_data(payload, record);
+        }
     }
-    let session = run_command(rt, s, out, payload[0], record);
-    run_data(rt, session, memory, out, payload, record)
-}
 
-fn run_read(
-    rt: &impl Print,
-    s: Session,
-    memory: &[u8],
-    out: &mut [u8],
-    record: u64,
-    index: u64,
-) -> Session
-    ensures { CarriesOutCalls «record» index (read ∷ [])
-        (live s memory.now out.old) (live result memory.now out.new) }
-{
-    let controller = s.controller;
-    let read = controller.data_read(memory);
-    let controller = read.controller;
-    let answer = read.answer;
-    Session {
-        controller: controller,
-        output: print_read(rt, s.output, out, answer, record, index),
+    fn run_read(&mut self, record: u64, index: u64)
+        ensures { CarriesOutCalls «record» index (read ∷ []) (live self.old) (live self.new) }
+    {
+        let memory = &mut *self.memory;
+        let answer = self.controller.data_read(memory);
+        self.output.print_read(answer, record, index);
     }
-}
 
-// A count of reads.
-fn run_reads(
-    rt: &impl Print,
-    s: Session,
-    memory: &[u8],
-    out: &mut [u8],
-    count: u16,
-    record: u64,
-) -> Session
-    ensures { CarriesOutCalls «record» 1 (replicate count read)
-        (live s memory.now out.old) (live result memory.now out.new) }
-{
-    let mut session = s;
-    let mut i: u16 = 0;
-    while i < count {
-        i += 1;
-        session = run_read(rt, session, memory, out, record, i as u64);
+    // A count of reads.
+    fn run_reads(&mut self, count: u16, record: u64)
+        ensures { CarriesOutCalls «record» 1 (replicate count read) (live self.old) (live self.new) }
+    {
+        for i in 1..=count {
+            self.run_read(record, i as u64);
+        }
     }
-    session
-}
 
-// Carries one record out.
-pub fn run_record(
-    rt: &impl Print,
-    s: Session,
-    memory: &mut [u8],
-    font: &[u8],
-    out: &mut [u8],
-    kind: Kind,
-    payload: &[u8],
-    record: u64,
-) -> Session
-    ensures { CarriesOutRecord «record» font.now kind payload.now
-        (live s memory.old out.old) (live result memory.new out.new) }
-{
-    match kind {
-        Kind::Bus => run_bus(rt, s, memory, out, payload, record),
-        Kind::Reads => run_reads(rt, s, memory, out, busfile::word(payload), record),
-        Kind::Frame => {
-            let controller = s.controller;
-            let o = show(
-                rt,
-                s,
-                memory,
-                font,
-                out,
-                busfile::double_word(payload),
-                record,
-            );
-            Session {
-                controller: controller,
-                output: o,
-            }
+    // Carries one record out.
+    pub(crate) fn run_record(&mut self, kind: Kind, payload: &[u8], record: u64)
+        ensures { CarriesOutRecord «record» kind payload.now (live self.old) (live self.new) }
+    {
+        match kind {
+            Kind::Bus => self.run_bus(payload, record),
+            Kind::Reads => self.run_reads(busfile::word(payload), record),
+            Kind::Frame => self.show(busfile::double_word(payload), record),
         }
     }
 }

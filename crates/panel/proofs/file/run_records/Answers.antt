@@ -1,49 +1,27 @@
-use Rattle.std.proofs.Common.{suc, ◌-◌, ◌^◌, false, [], refl, ap, inl, inr, arith}
-use Prim.Native.Nat.{zero-le}
-use Rattle.session.specs.File.{Progress, progress, start_of}
-use Rattle.panel.proofs.Turns.{started, ran}
+use Rattle.std.proofs.Common.{suc, ◌-◌, ◌^◌, List, ℕ, sym, ap, subst, ◌∙◌, inl, inr, arith}
+use Rattle.session.specs.File.{progress}
+use Rattle.session.specs.Records.{Lent}
+use Rattle.panel.specs.Reading.{Done}
+use Rattle.panel.proofs.Turns.{ran}
 use Rattle.panel.proofs.file.run_records.Goals as goal
+use Rattle.panel.proofs.file.run_records.Goals.{then-step, else-step}
 
-pub loop-turns-init : goal.loop-turns-init
-loop-turns-init g c =
-    let a = c.args in
-    let begun = c.start.ensures.by_index a.memory.now a.out.now in (
-      (
-        0,
-        refl,
-        started a.font.now (start_of a.memory.now a.out.now) (progress c.start.result a.memory.now a.out.now) _ [] false begun
-            c.start.ensures.open_value,
-      ),
-      record { place = omega (arith, ap (λ (p : Progress). p.at) begun); part = zero-le; roomy = c.requires },
-    )
+pub returns-after-loop-clause-ran : goal.returns-after-loop-clause-ran
+returns-after-loop-clause-ran g c =
+    let s = c.args.step.now in
+    let l = c.loop in
+    ran s.session.font.now (progress s) l.counter (2 ^ 64 - 1) l.step l.input l.invariant.0 (inr (inr (omega (arith, l.auto.counter-end, c.loop-test.false))))
 
-pub loop-turns-preserved : goal.loop-turns-preserved
-loop-turns-preserved g c =
-    let a = c.args in
-    let done = c.loop-turns.invariant.0 in (
-      (suc done.0, omega (arith, done.1), c.turn-run.ensures.done (start_of a.memory.now a.out.now) done.0 done.2),
-      c.turn-run.ensures.in_part,
-    )
-
-pub returns-else-step-2 : goal.returns-else-step-2
-returns-else-step-2 g c =
-    let a = c.args in
-    let t = c.turn-run in
-    let done = c.loop-turns.invariant.0 in
-    ran a.font.now (start_of a.memory.now a.out.now) (suc done.0) (2 ^ 64 - 1) t.result t.new.memory t.new.out t.new.input
-    (t.ensures.done (start_of a.memory.now a.out.now) done.0 done.2) (inr (inl c.if-step-2.false))
-
-pub returns-else-step : goal.returns-else-step
-returns-else-step g c =
-    let a = c.args in
-    let t = c.turn-run in
-    let done = c.loop-turns.invariant.0 in
-    ran a.font.now (start_of a.memory.now a.out.now) (suc done.0) (2 ^ 64 - 1) t.result t.new.memory t.new.out t.new.input
-    (t.ensures.done (start_of a.memory.now a.out.now) done.0 done.2) (inl c.if-step.false)
-
-pub returns : goal.returns
-returns g c =
-    let a = c.args in
-    let l = c.loop-turns in
-    ran a.font.now (start_of a.memory.now a.out.now) l.invariant.0.0 (2 ^ 64 - 1) l.run l.memory l.out l.input
-    l.invariant.0.2 (inr (inr (omega (arith, l.invariant.0.1, c.loop-turns-test.false))))
+pub returns-then-not-step-clause-ran : goal.returns-then-not-step-clause-ran
+returns-then-not-step-clause-ran g c =
+    let s = c.args.step.now in
+    let l = c.loop in
+    let t = c.turn in
+    let font = ap (λ (x : Lent). x.font) l.invariant.2 in
+    let before = subst (λ (f : List ℕ). Done f (progress s) l.counter l.step l.input) (sym font) l.invariant.0 in
+    let done = subst (λ (f : List ℕ). Done f (progress s) (suc l.counter) t.new.step t.new.input) font (t.ensures.done (progress s) l.counter before) in
+    ran s.session.font.now (progress s) (suc l.counter) (2 ^ 64 - 1) t.new.step t.new.input done
+    (elim c.if-step.branch [
+      | then-step w ↦ inr (inl (sym w.value-is ∙ c.if-not-step.true))
+      | else-step w ↦ inl w.if-step.false
+    ])

@@ -1,32 +1,30 @@
-use Rattle.std.proofs.Common.{◌≡◌, ℕ, ◌+◌, ◌-◌, ◌≤◌, ◌⊎◌, Bool, true, false, T, List, [], ◌++◌, ltb, length, take, drop, refl, sym, ap, subst, ◌∙◌, inl, inr, arith, append-nil, length-take, length-drop, length-take-le}
+use Rattle.std.proofs.Common.{◌≡◌, ℕ, ◌+◌, ◌-◌, ◌≤◌, ◌⊎◌, Bool, true, false, T, List, [], ◌++◌, ltb, length, take, drop, refl, sym, ap, subst, ◌∙◌, inl, inr, arith, append-nil, length-take-le}
 use Prim.Native.Nat.{zero-le}
-use native.Mathlib.Nat.{sub-zero}
 use lib.Seq.{take-add, take_at}
 use borrow.Author.Tests.{leb-true, ltb-false}
 use Rattle.busfile.specs.Records.{part_of, compacted}
 use Rattle.busfile.specs.Parts.{longest_record}
 use Rattle.session.specs.Reading.{ReadsOn}
-use Rattle.panel.specs.declared.Run.{Run}
+use Rattle.panel.specs.declared.reading.Input.{Input}
 use Rattle.panel.specs.Reading.{InPart, at_hand, Filled}
-use Rattle.panel.proofs.reading.fill.Goals as goal
+use Rattle.panel.proofs.reading.Input.read_on.Goals as goal
+use Rattle.panel.proofs.reading.Input.read_on.Goals.{then-self-via-then-self, then-self-via-else-self+then-suffices}
 
 -- nothing is read where the file has ended, or the longest record would be whole
-unread : (run : Run) (input : List ℕ) → InPart run input → (run.part.ended ≡ true) ⊎ (run.step.at + longest_record ≤ length (at_hand run input))
-    → Filled run input run input
-unread run input inside enough =
+unread : {R : Type 0} (at : ℕ) (input : Input R) → InPart at input → (input.ended ≡ true) ⊎ (at + longest_record ≤ length (at_hand input)) → Filled at input at input
+unread at input inside enough =
     record {
       reads =
           record {
             past = [];
-            rest = at_hand run input;
+            rest = at_hand input;
             more = [];
             was = refl;
-            becomes = sym (append-nil (at_hand run input));
+            becomes = sym (append-nil (at_hand input));
             place = omega arith;
             still = λ e. (refl, e);
             enough = enough;
           };
-      same = refl;
       inside = inside;
     }
 
@@ -67,30 +65,27 @@ read_behind input moved read at filled kept total ended place inside roomy goes_
     long (inl e) = inl e
     long (inr l) = inr (omega (arith, l, length-take-le total read most))
 
--- it fits the buffer
-kept_within : (input : List ℕ) (at filled : ℕ) {kept size : ℕ} → kept ≡ length (part_of input at filled) → size ≡ length input → kept ≤ size
-kept_within input at filled k same = omega (arith, k, same, length-take (filled - at) (drop at input), length-drop at input)
-
-pub returns-then-run : goal.returns-then-run
-returns-then-run g c = unread _ _ c.requires (inl c.if-run.true)
-
-pub returns-then-suffices : goal.returns-then-suffices
-returns-then-suffices g c =
+pub returns-then-self : goal.returns-then-self
+returns-then-self g c =
     let a = c.args in
-    let told = rw sub-zero at (rw c.part.ensures at (sym c.suffices.ensures ∙ c.if-suffices.true)) in
-    unread a.run a.input.now c.requires (inr (leb-true (a.run.step.at + longest_record) (length (at_hand a.run a.input.now)) told))
+    let s = a.self.now in
+    unread a.at s c.requires
+    (elim c.then-self.branch [
+      | then-self-via-then-self w ↦ inl w.if-self.true
+      | then-self-via-else-self+then-suffices w ↦ inr (leb-true (a.at + longest_record) (length (at_hand s)) (rw w.at_hand.ensures at (sym w.suffices.ensures ∙ w.if-suffices.true)))
+    ])
 
 pub returns : goal.returns
 returns g c =
     let a = c.args in
-    let read = c.read_on-total in
-    let size = read.auto.input ∙ c.compact-kept.auto.buffer in
-    let most : read.result ≤ length read.new.input = omega (arith, read.ensures.upper_bound, read.auto.input) in
+    let s = a.self.now in
+    let read = c.read_behind.ensures in
+    let size = read.room ∙ c.compact-kept.auto.buffer in
     record {
       reads =
-          read_behind a.input.now c.compact-kept.new.buffer read.new.input a.run.step.at a.run.part.filled c.compact-kept.result read.result
-          a.run.part.ended c.requires.place c.requires.part c.requires.roomy c.if-run.false c.compact-kept.ensures.part_length
-          c.compact-kept.ensures.moved_to_front read.ensures.input_unchanged read.ensures.lower_bound most size;
-      same = refl;
-      inside = record { place = zero-le; part = most; roomy = omega (arith, c.requires.roomy, size) };
+          rw read.ends
+          (read_behind s.buffer.now c.compact-kept.new.buffer c.read_behind.new.self.buffer.now a.at s.filled c.compact-kept.result c.read_behind.new.self.filled
+          s.ended c.requires.place c.requires.part c.requires.roomy c.if-self.false c.compact-kept.ensures.part_length
+          c.compact-kept.ensures.moved_to_front read.stays read.behind read.part size);
+      inside = record { place = zero-le; part = read.part; roomy = omega (arith, c.requires.roomy, size) };
     }

@@ -78,10 +78,13 @@ impl<'a> Lines<'a> {
         if self.buffer.len() <= end {
             return;
         }
+        // In variables: behind `self` each store might change them, and the loop would go dot by dot.
+        let used = self.used;
+        let buffer = &mut *self.buffer;
         for (i, &dot) in dots.iter().enumerate() {
-            self.buffer[self.used + i] = hex_digit(dot);
+            buffer[used + i] = hex_digit(dot);
         }
-        self.buffer[end] = b'\n';
+        buffer[end] = b'\n';
         self.used = end + 1;
     }
 }

@@ -1,4 +1,5 @@
 // What the rows of a frame are composed of.
+ghost use Rattle.std.specs.Prelude.{◌<◌};
 ghost use Rattle.row.specs.Stages.{Composable};
 
 use registers::{FONT_SIZE, MEMORY_SIZE, Registers};
@@ -11,4 +12,5 @@ pub(crate) struct Scene<'a> {
     pub font: &'a [u8; FONT_SIZE],
     pub frame: u32,
     ghost composable: { Composable registers },
+    ghost mixes: { registers.overlay.mx < 4 },
 }

@@ -3,3 +3,4 @@ pub mod InPlace
 pub mod Halves
 pub mod Scrolled
 pub mod MixedBytes
+pub mod CodeLaws

@@ -2,6 +2,18 @@
 use Rattle.std.specs.Prelude.{ℕ}
 use Rattle.std.specs.Int.Bits.{bit_and, bit_or, bit_xor}
 use Rattle.choice.specs.Choice.{when◌then◌else◌, ◌=?◌}
+use Rattle.dots.specs.declared.Mix.{Mix}
+use Rattle.dots.specs.declared.Mix.TheVariants.{Or, Xor, And, Priority}
+
+-- what a code of MX stands for, and its code
+abbrev pub mix_of : ℕ → Mix
+mix_of mx = when mx =? 0 then Or else when mx =? 1 then Xor else when mx =? 2 then And else Priority
+
+abbrev pub mix_code : Mix → ℕ
+mix_code Or = 0
+mix_code Xor = 1
+mix_code And = 2
+mix_code Priority = 3
 
 -- the first that isn't 0
 unfoldable pub first_of : ℕ → ℕ → ℕ → ℕ

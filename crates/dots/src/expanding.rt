@@ -1,8 +1,10 @@
 // Stage 5 of a row: bytes expanded to dots, one byte a dot.
 ghost use Rattle.std.specs.Prelude.{◌+◌, ◌*◌, ◌/◌, ◌^◌, ◌≤◌, ◌<◌, ◌≡◌, length};
 ghost use Rattle.dots.specs.Tables.{table};
-ghost use Rattle.dots.specs.Bytes.{bits_per_dot, dot_of, FillByte};
+ghost use Rattle.dots.specs.Bytes.{depth_code, bits_per_dot, dot_of, FillByte};
 ghost use Rattle.dots.specs.Expanded.{expanded_dot, DotsFit};
+
+use crate::Depth;
 
 // A dot of a byte.
 #[tactic(auto, unfolding(crate::specs::Bytes::dot_of))]
@@ -91,13 +93,13 @@ fn expand_bits(per: usize, line: &[u8], out: &mut [u8])
 }
 
 // The dots of all columns.
-pub fn expand(grey: u8, per: usize, line: &[u8], out: &mut [u8])
-    requires { DotsFit grey per × (length out.old ≡ length line.now * per) }
-    ensures { out.new ≡ table (length line.now * per) (expanded_dot (bits_per_dot grey) per line.now) }
+pub fn expand(depth: Depth, per: usize, line: &[u8], out: &mut [u8])
+    requires { DotsFit (depth_code depth) per × (length out.old ≡ length line.now * per) }
+    ensures { out.new ≡ table (length line.now * per) (expanded_dot (bits_per_dot (depth_code depth)) per line.now) }
 {
-    match grey {
-        0 => expand_bits(per, line, out),
-        1 => expand_grey::<2>(line, out),
-        _ => expand_grey::<4>(line, out),
+    match depth {
+        Depth::One => expand_bits(per, line, out),
+        Depth::Two => expand_grey::<2>(line, out),
+        Depth::Four => expand_grey::<4>(line, out),
     }
 }

@@ -2,10 +2,28 @@
 #![tactic(auto)]
 
 mod clearing;
+mod codes;
 mod expanding;
 mod mixing;
 mod scrolling;
 
 pub use clearing::clear;
-pub use mixing::{mix_bytes, third_mix};
+pub use mixing::mix_bytes;
 pub use scrolling::expand_scrolled;
+
+// How layers are mixed.
+#[derive(Clone, Copy, PartialEq, Eq)]
+pub enum Mix {
+    Or,
+    Xor,
+    And,
+    Priority,
+}
+
+// How many bits a dot has.
+#[derive(Clone, Copy, PartialEq, Eq)]
+pub enum Depth {
+    One,
+    Two,
+    Four,
+}

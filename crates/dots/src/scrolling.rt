@@ -1,10 +1,11 @@
 // Stages 4 and 5 of a row: its bytes moved left by n dots, at one bit a dot, and expanded.
 ghost use Rattle.std.specs.Prelude.{◌+◌, ◌*◌, ◌<◌, ◌≤◌, ◌≡◌, length};
 ghost use Rattle.dots.specs.Tables.{table};
-ghost use Rattle.dots.specs.Bytes.{bits_per_dot};
+ghost use Rattle.dots.specs.Bytes.{depth_code, bits_per_dot};
 ghost use Rattle.dots.specs.Expanded.{expanded_dot, DotsFit};
 ghost use Rattle.dots.specs.Scrolled.{scrolled_byte, scrolled};
 
+use crate::Depth;
 use crate::expanding::expand;
 
 // Eight dots from dot n of a on, which go on with those of b after the first `per`.
@@ -36,18 +37,18 @@ fn scroll(per: usize, n: usize, line: &mut [u8])
 
 // The dots of the columns shown, from dot n of the line on.
 pub fn expand_scrolled(
-    grey: u8,
+    depth: Depth,
     per: usize,
     n: usize,
     shown: usize,
     line: &mut [u8],
     out: &mut [u8],
 )
-    requires { DotsFit grey per × (n < per) × ((n ≡ 0 → ⊥) → grey ≡ 0) × (shown ≤ length line.old)
+    requires { DotsFit (depth_code depth) per × (n < per) × ((n ≡ 0 → ⊥) → depth_code depth ≡ 0) × (shown ≤ length line.old)
         × (length out.old ≡ shown * per) }
     ensures line_after { line.new ≡ scrolled per n line.old }
-    ensures out_after { out.new ≡ table (shown * per) (λ x. expanded_dot (bits_per_dot grey) per line.old (x + n)) }
+    ensures out_after { out.new ≡ table (shown * per) (λ x. expanded_dot (bits_per_dot (depth_code depth)) per line.old (x + n)) }
 {
     scroll(per, n, line);
-    expand(grey, per, &line[..shown], out);
+    expand(depth, per, &line[..shown], out);
 }

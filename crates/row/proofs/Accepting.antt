@@ -54,6 +54,10 @@ pub grey_code : (registers : Registers) → (in_layout registers).grey < 3
 unfolding in_layout
 grey_code registers = field_below 3 registers.grey (omega arith)
 
+pub mix_in_layout : (registers : Registers) → (in_layout registers).overlay.mx < 4
+unfolding in_layout
+mix_in_layout registers = field_below 4 registers.overlay.mx (omega arith)
+
 -- what a row with no refusal has passed
 record Passed (r : Registers) (memory_length font_length n buffer_length : ℕ) : Type 0 where
   memory_whole : not (memory_length =? memory_size) ≡ false

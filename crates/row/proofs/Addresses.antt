@@ -1,5 +1,5 @@
 -- Addresses modulo 65,536, and what is fetched there.
-use Rattle.std.proofs.Common.{◌≡◌, ℕ, ◌+◌, ◌*◌, ◌%◌, ◌^◌, ◌<◌, ◌≤◌, List, length, get_or, take, drop, sym, ap, ◌∙◌, lt_of_le_of_lt, le_of_lt, mod-eq_of_lt, mul-le-mul_left, mul-lt-mul_of_pos_right, arith, length-drop, length-take-le, get_or-drop, get_or-take, pow_pos}
+use Rattle.std.proofs.Common.{◌≡◌, ℕ, ◌+◌, ◌%◌, ◌<◌, ◌≤◌, List, length, get_or, take, drop, sym, ap, ◌∙◌, mod-eq_of_lt, arith, length-drop, length-take-le, get_or-drop, get_or-take}
 use Rattle.dots.specs.Tables.{table}
 use Rattle.dots.proofs.Tables.{is_table}
 use Rattle.row.specs.Glyphs.{fetch}
@@ -8,13 +8,6 @@ use Rattle.row.specs.Glyphs.{fetch}
 pub fetch_at : (memory : List ℕ) (a b : ℕ) → a % 65536 ≡ b % 65536 → fetch memory a ≡ fetch memory b
 unfolding fetch
 fetch_at memory a b e = ap (λ (x : ℕ). get_or memory x 0) e
-
-pub fetch_mod : (memory : List ℕ) (a : ℕ) → fetch memory (a % 65536) ≡ fetch memory a
-fetch_mod memory a = fetch_at memory (a % 65536) a (omega arith)
-
--- a product of two numbers of 16 bits fits 32
-pub product : {a b : ℕ} → a < 2 ^ 16 → b < 2 ^ 16 → a * b < 2 ^ 32
-product {a} {b} ha hb = lt_of_le_of_lt (mul-le-mul_left a (le_of_lt hb)) (mul-lt-mul_of_pos_right ha (pow_pos 16))
 
 -- bytes copied from a part of memory
 pub bytes_copied : (memory line src : List ℕ) (at : ℕ) → at + length line ≤ length memory → length memory ≤ 65536 → src ≡ take (length line) (drop at memory)

@@ -1,5 +1,5 @@
 -- The bytes that are fetched are those that the definition gives a layer. It knows no code.
-use Rattle.std.proofs.Common.{◌≡◌, ℕ, ◌+◌, ◌/◌, ◌%◌, true, false, Some, List, length, get_or, ap, ◌∙◌, arith}
+use Rattle.std.proofs.Common.{◌≡◌, ℕ, ◌+◌, ◌/◌, ◌%◌, true, false, List, length, get_or, ap, ◌∙◌, arith}
 use Rattle.registers.specs.declared.Registers.{Registers}
 use Rattle.registers.specs.Counts.{⁅◌⁆}
 use Rattle.dots.specs.Tables.{table}
@@ -7,8 +7,6 @@ use Rattle.dots.proofs.Tables.{length_table, get_or-table, same_table}
 use Rattle.row.specs.declared.BlockRow.{BlockRow}
 use Rattle.row.specs.Layers.{is_text, sad}
 use Rattle.row.specs.Glyphs.{fetch, glyph_byte, code_address, block_byte}
-use Rattle.row.specs.Flashing.{is_lit}
-use Rattle.row.specs.Dots.{layer_byte}
 use Rattle.row.specs.Stages.{line_address}
 use Rattle.row.proofs.Addresses.{fetch_at}
 
@@ -32,13 +30,3 @@ pub graphics_bytes : (r : Registers) (memory font : List ℕ) (b : BlockRow) (n 
     → start ≡ line_address (sad r.blocks b.block) r.system.ap b.row → line ≡ table n (λ c. fetch memory (start + c)) → line ≡ table n (block_byte r memory font b)
 unfolding block_byte
 graphics_bytes r memory font b n {start} text e el = el ∙ same_table n _ _ (λ c h. rw text (fetch_at memory (start + c) _ (omega (arith, e))))
-
-pub lit_bytes : (r : Registers) (memory font : List ℕ) (frame : ℕ) (b : BlockRow) (n : ℕ) {line : List ℕ} → is_lit r.display.fp b.block frame ≡ true
-    → line ≡ table n (block_byte r memory font b) → line ≡ table n (layer_byte r memory font frame (Some b))
-unfolding layer_byte
-lit_bytes r memory font frame b n lit e = e ∙ same_table n _ _ (λ c h. rw lit)
-
-pub dark_bytes : (r : Registers) (memory font : List ℕ) (frame : ℕ) (b : BlockRow) (n : ℕ) {line : List ℕ} → is_lit r.display.fp b.block frame ≡ false
-    → line ≡ table n (λ c. 0) → line ≡ table n (layer_byte r memory font frame (Some b))
-unfolding layer_byte
-dark_bytes r memory font frame b n lit e = e ∙ same_table n _ _ (λ c h. rw lit)

@@ -14,7 +14,7 @@ impl Block {
     }
 
     #[tactic(auto, unfolding(crate::specs::Layers::is_text))]
-    pub fn is_text(self, o: Overlay) -> bool
+    pub(crate) fn is_text(self, o: Overlay) -> bool
         ensures { result ≡ is_text o self }
     {
         match self {
@@ -26,7 +26,7 @@ impl Block {
 
     // Its start address.
     #[tactic(auto, unfolding(crate::specs::Layers::sad))]
-    pub fn sad(self, b: Blocks) -> u16
+    pub(crate) fn sad(self, b: Blocks) -> u16
         ensures { result ≡ sad b self }
     {
         match self {

@@ -63,6 +63,7 @@ impl Scene<'_> {
             let text_line = shown.row / r.system.fy.count().0;
             let start = line_address(shown.block.sad(r.blocks), r.system.ap, text_line);
             let at = usize::from(r.cursor.address.wrapping_sub(start));
+            // By index: of a write through `get_mut` std says no more than that the length stays.
             if at < line.len() {
                 line[at] ^= first_bits(r.form.crx);
             }

@@ -12,7 +12,7 @@ fn is_on(period: u32, frame: u32) -> bool
     10 * (frame % period) < 7 * period
 }
 
-// Whether what has a code of FP or FC shows; code 3 is of the period given.
+// Whether what has a code of FP or FC, as the registers hold it, shows; code 3 is of the period given.
 #[tactic(auto, unfolding(crate::specs::Flashing::flashing))]
 pub fn flashes(code: u8, period: u32, frame: u32) -> bool
     requires { (0 < period) × (period ≤ 64) }
@@ -40,7 +40,7 @@ impl Block {
 
     // Whether FP shows it.
     #[tactic(auto, unfolding(crate::specs::Flashing::is_lit))]
-    pub fn is_lit(self, fp: u8, frame: u32) -> bool
+    pub(crate) fn is_lit(self, fp: u8, frame: u32) -> bool
         ensures { result ≡ is_lit fp self frame }
     {
         flashes(self.flash_code(fp), 4, frame)

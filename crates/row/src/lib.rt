@@ -16,7 +16,7 @@ use registers::Count;
 pub use rows::{compose, frame_size};
 
 // The four screen blocks. Public, as the table of edges names them.
-#[derive(Clone, Copy, PartialEq, Eq)]
+#[derive(Clone, Copy)]
 pub enum Block {
     One,
     Two,
@@ -24,7 +24,7 @@ pub enum Block {
     Four,
 }
 
-// What a layer shows on a row: a row of a block, counted from the block's first.
+// A row of a block, counted from the block's first. A layer shows one on a row, or none.
 #[derive(Clone, Copy)]
 pub(crate) struct BlockRow {
     pub block: Block,

@@ -2,6 +2,7 @@
 ghost use Rattle.std.specs.Prelude.{◌≡◌, ◌+◌, ◌≤◌, length, slice_index};
 ghost use Rattle.registers.specs.Counts.{⁅◌⁆};
 ghost use Rattle.dots.specs.Tables.{table};
+ghost use Rattle.dots.specs.Mixing.{mix_code};
 ghost use Rattle.dots.specs.MixedBytes.{mix_byte};
 ghost use Rattle.row.specs.Dots.{layer_byte, width, composed_dot, is_shown, dots};
 ghost use Rattle.row.specs.Rows.{frame_size, row_outcome, composed_outcome};
@@ -10,22 +11,29 @@ ghost use Rattle.row.specs.Stages.{ColumnDots};
 use crate::layers::{layer1, layer2, layer3};
 use crate::refusals::check_row;
 use crate::scene::Scene;
-use crate::width::{columns, dots_per_column, row_width, shown_columns};
+use crate::width::{columns, depth, dots_per_column, row_width, shown_columns};
 use crate::{BlockRow, FrameSize};
-use dots::{clear, expand_scrolled, mix_bytes, third_mix};
+use dots::{Mix, clear, expand_scrolled, mix_bytes};
 use registers::{FONT_SIZE, MEMORY_SIZE, Refusal, Registers};
 
 impl Scene<'_> {
     // The bytes of a layer mixed into those of the layers before it. As a call of its own it makes rows of three layers 4 % slower.
     #[inline(always)]
-    fn mix_layer(&self, layer: Option<BlockRow>, mx: u8, line: &mut [u8], scratch: &mut [u8])
+    fn mix_layer(&self, layer: Option<BlockRow>, mix: Mix, line: &mut [u8], scratch: &mut [u8])
         requires { length scratch.old ≡ length line.old }
         ensures { let s = self.now in
             line.new ≡ table (length line.old)
-            (λ c. mix_byte mx s.registers.grey (slice_index line.old c) (layer_byte s.registers s.memory.now s.font.now s.frame layer c)) }
+            (λ c. mix_byte (mix_code mix) s.registers.grey (slice_index line.old c) (layer_byte s.registers s.memory.now s.font.now s.frame layer c)) }
     {
         self.layer_bytes(layer, scratch);
-        mix_bytes(mx, self.registers.grey, line, scratch);
+        mix_bytes(mix, depth(&self.registers), line, scratch);
+    }
+
+    #[tactic(auto, using(dots::proofs::CodeLaws::mix_codes))]
+    fn mix(&self) -> Mix
+        ensures { mix_code result ≡ self.now.registers.overlay.mx }
+    {
+        self.registers.overlay.mx.into()
     }
 
     // The bytes of row n, all layers mixed.
@@ -38,10 +46,11 @@ impl Scene<'_> {
         let layer = layer1(r, n);
         self.layer_bytes(layer, line);
         self.invert(layer, line);
-        self.mix_layer(layer2(r, n), r.overlay.mx, line, scratch);
+        let mix = self.mix();
+        self.mix_layer(layer2(r, n), mix, line, scratch);
         let third = layer3(r, n);
         if third.is_some() {
-            self.mix_layer(third, third_mix(r.overlay.mx), line, scratch);
+            self.mix_layer(third, mix.third(), line, scratch);
         }
     }
 
@@ -58,9 +67,10 @@ impl Scene<'_> {
         let mut buffer = [0u8; 256];
         let line = &mut buffer[..count];
         self.mix_layers(n, line, &mut out[..count]);
-        let per = dots_per_column(r.grey, r.system.fx);
+        let depth = depth(r);
+        let per = dots_per_column(depth, r.system.fx);
         let shown = shown_columns(r.hdot, r.system.cr);
-        expand_scrolled(r.grey, per, usize::from(r.hdot), shown, line, out);
+        expand_scrolled(depth, per, usize::from(r.hdot), shown, line, out);
     }
 }
 

@@ -3,14 +3,14 @@ use Rattle.dots.specs.MixedBytes.{mix_byte}
 use Rattle.dots.proofs.Tables.{is_table}
 use Rattle.dots.proofs.mixing.mix_bytes.Goals as goal
 
-pub returns-in-0 : goal.returns-in-0
+pub returns-in-Or : goal.returns-in-Or
 unfolding mix_byte
-returns-in-0 c = is_table _ _ _ c.mix_with.auto.line (λ k h. let e = c.mix_with.ensures k h in search rules)
+returns-in-Or c = is_table _ _ _ c.mix_with.auto.line (λ k h. let e = c.mix_with.ensures k h in search rules)
 
-pub returns-in-1 : goal.returns-in-1
+pub returns-in-Xor : goal.returns-in-Xor
 unfolding mix_byte
-returns-in-1 c = is_table _ _ _ c.mix_with-in-1.auto.line (λ k h. let e = c.mix_with-in-1.ensures k h in search rules)
+returns-in-Xor c = is_table _ _ _ c.mix_with-in-Xor.auto.line (λ k h. let e = c.mix_with-in-Xor.ensures k h in search rules)
 
-pub returns-in-2 : goal.returns-in-2
+pub returns-in-And : goal.returns-in-And
 unfolding mix_byte
-returns-in-2 c = is_table _ _ _ c.mix_with-in-2.auto.line (λ k h. let e = c.mix_with-in-2.ensures k h in search rules)
+returns-in-And c = is_table _ _ _ c.mix_with-in-And.auto.line (λ k h. let e = c.mix_with-in-And.ensures k h in search rules)

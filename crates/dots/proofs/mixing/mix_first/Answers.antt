@@ -3,14 +3,14 @@ use Rattle.dots.specs.MixedBytes.{first_byte}
 use Rattle.dots.proofs.Tables.{is_table}
 use Rattle.dots.proofs.mixing.mix_first.Goals as goal
 
-pub returns-in-0 : goal.returns-in-0
+pub returns-in-One : goal.returns-in-One
 unfolding first_byte
-returns-in-0 c = is_table _ _ _ c.mix_with.auto.line (λ k h. let e = c.mix_with.ensures k h in search rules)
+returns-in-One c = is_table _ _ _ c.mix_with.auto.line (λ k h. let e = c.mix_with.ensures k h in search rules)
 
-pub returns-in-1 : goal.returns-in-1
+pub returns-in-Two : goal.returns-in-Two
 unfolding first_byte
-returns-in-1 c = is_table _ _ _ c.mix_with-in-1.auto.line (λ k h. let e = c.mix_with-in-1.ensures k h in search rules)
+returns-in-Two c = is_table _ _ _ c.mix_with-in-Two.auto.line (λ k h. let e = c.mix_with-in-Two.ensures k h in search rules)
 
-pub returns-in_default : goal.returns-in_default
+pub returns-in-Four : goal.returns-in-Four
 unfolding first_byte
-returns-in_default c = is_table _ _ _ c.mix_with-in_default.auto.line (λ k h. let e = c.mix_with-in_default.ensures k h in search rules)
+returns-in-Four c = is_table _ _ _ c.mix_with-in-Four.auto.line (λ k h. let e = c.mix_with-in-Four.ensures k h in search rules)

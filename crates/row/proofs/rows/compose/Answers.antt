@@ -1,7 +1,7 @@
 use Rattle.std.proofs.Common.{sym, ◌∙◌}
 use Rattle.std.proofs.lemmas.Result.{err_from_is_err_and}
 use Rattle.row.proofs.Dots.{row_when}
-use Rattle.row.proofs.Accepting.{grey_code, accepted, outcome_memory_size, outcome_font_size, outcome_accepted, outcome_refused}
+use Rattle.row.proofs.Accepting.{grey_code, mix_in_layout, accepted, outcome_memory_size, outcome_font_size, outcome_accepted, outcome_refused}
 use Rattle.row.proofs.rows.compose.Goals as goal
 
 pub returns-in_default : goal.returns-in_default
@@ -29,6 +29,7 @@ pub invariant_of-draw : goal.invariant_of-draw
 invariant_of-draw c =
     record {
       composable = (accepted _ (rw c.in_layout-registers.ensures (grey_code c.args.registers)) _ _ _ _ (sym c.in_ok-check_row.ensures.result_value)).composable;
+      mixes = rw c.in_layout-registers.ensures (mix_in_layout c.args.registers);
     }
 
 pub draw-requires : goal.draw-requires

@@ -1,11 +1,5 @@
--- The two cases of a choice, of two tests, and of two numbers.
-use Prim.Native.Nat.{ℕ, ◌<◌, ◌≤◌}
-use mathlib.Core.Bool.{Bool, true, false, ◌&&◌}
-use mathlib.Core.Logic.{◌⊎◌, inl, inr}
-use mathlib.Core.Path.{◌≡◌, refl, sym, subst}
-use native.Mathlib.Decide.{dec_lt}
-use native.Mathlib.Nat.{le_of_suc-le-suc, lt_of_not-le}
-use lib.Dec.{T}
+-- The two cases of a choice, and the cases of a number below 2 or 4, one by one.
+use Rattle.std.proofs.Common.{◌≡◌, ℕ, zero, suc, ◌<◌, Bool, true, false, refl, le_of_suc-le-suc, not-suc-le-zero}
 use Rattle.choice.specs.Choice.{when◌then◌else◌}
 
 -- what both cases have, the choice has
@@ -13,13 +7,12 @@ pub choose : {A : Type 0} (P : A → Type 0) (test : Bool) (x y : A) → (test �
 choose P true x y p q = p refl
 choose P false x y p q = q refl
 
-pub both_true : (a b : Bool) → (a && b) ≡ true → (a ≡ true) × (b ≡ true)
-both_true true b h = (refl, h)
-both_true false b h = absurd (subst T (sym h) tt)
+pub below2 : (P : ℕ → Type 0) → P 0 → P 1 → (d : ℕ) → d < 2 → P d
+below2 P p0 p1 zero h = p0
+below2 P p0 p1 (suc zero) h = p1
+below2 P p0 p1 (suc (suc d)) h = absurd (not-suc-le-zero (le_of_suc-le-suc (le_of_suc-le-suc h)))
 
-pub lt_or_le : (k a : ℕ) → (k < a) ⊎ (a ≤ k)
-lt_or_le k a = go (dec_lt k a)
-  where
-    go : Dec (k < a) → (k < a) ⊎ (a ≤ k)
-    go (yes h) = inl h
-    go (no h) = inr (le_of_suc-le-suc (lt_of_not-le h))
+pub below4 : (P : ℕ → Type 0) → P 0 → P 1 → P 2 → P 3 → (d : ℕ) → d < 4 → P d
+below4 P p0 p1 p2 p3 zero h = p0
+below4 P p0 p1 p2 p3 (suc zero) h = p1
+below4 P p0 p1 p2 p3 (suc (suc d)) h = below2 (λ x. P (suc (suc x))) p2 p3 d (le_of_suc-le-suc (le_of_suc-le-suc h))

@@ -1,20 +1,17 @@
 -- The dots of the halves of a byte.
-use Rattle.std.proofs.Common.{ℕ, ◌+◌, ◌*◌, ◌/◌, ◌%◌, ◌<◌, List, [], ◌∷◌, get_or, T, Bool, true, false, ◌≡◌, refl, arith}
+use Rattle.std.proofs.Common.{ℕ, ◌+◌, ◌*◌, ◌/◌, ◌%◌, ◌<◌, List, [], ◌∷◌, get_or, true, ◌≡◌, refl, arith}
 use Rattle.std.specs.Str.{bytes_eq}
+use Rattle.std.proofs.lemmas.Bool.{agree_below_at}
 use Rattle.std.proofs.lemmas.Slice.Eq.{bytes_eq-Decides}
-use Rattle.choice.proofs.Below.{below4, all_below_lem}
+use Rattle.choice.proofs.Cases.{below4}
 use Rattle.dots.specs.declared.expanding.TheConstants.{HALVES}
 use Rattle.dots.specs.Tables.{table}
 use Rattle.dots.specs.Bytes.{dot_of}
 
-T_true : (b : Bool) → T b → b ≡ true
-T_true true t = refl
-T_true false t = absurd t
-
 -- an entry of the table is the dots of that half
 pub half_dots : (h : ℕ) → h < 16 → get_or HALVES h [] ≡ table 4 (dot_of 1 (h * 16))
 unfolding table dot_of
-half_dots h lt = (bytes_eq-Decides _ _).0 (T_true _ (all_below_lem (λ h. bytes_eq (get_or HALVES h []) (table 4 (dot_of 1 (h * 16)))) 16 tt h lt))
+half_dots h lt = (bytes_eq-Decides _ _).0 (agree_below_at (λ h. bytes_eq (get_or HALVES h []) (table 4 (dot_of 1 (h * 16)))) (λ _. true) 16 h refl lt)
 
 -- the dots of the halves are a byte's first four and its last four
 half_of : (b j : ℕ) → j < 4 → (dot_of 1 (b / 16 * 16) j ≡ dot_of 1 b (0 + j)) × (dot_of 1 (b % 16 * 16) j ≡ dot_of 1 b (4 + j))

@@ -1,12 +1,11 @@
 -- The dots of mixed bytes are the dots mixed. It knows no code.
-use Rattle.std.proofs.Common.{ℕ, zero, suc, ◌+◌, ◌-◌, ◌*◌, ◌/◌, ◌%◌, ◌^◌, ◌<◌, ◌≤◌, Bool, true, false, ◌≡◌, refl, sym, ap, ◌∙◌, subst, ⊎_elim, arith, bit_and, bit_or, bit_xor, mod-lt, pow_pos, pow-add, shr-shr, shl_exact, mul-suc, mul-le-mul_left, add-one, div-one, ne_eqb, le-ltb, eqb→eq}
+use Rattle.std.proofs.Common.{ℕ, zero, suc, ◌+◌, ◌-◌, ◌*◌, ◌/◌, ◌%◌, ◌^◌, ◌<◌, ◌≤◌, Bool, true, false, ◌≡◌, refl, sym, ap, ◌∙◌, subst, ⊎_elim, arith, bit_and, bit_or, bit_xor, mod-lt, pow_pos, pow-add, shr-shr, shl_exact, mul-suc, mul-le-mul_left, add-one, div-one, ne_eqb, le-ltb}
+use Rattle.std.proofs.lemmas.Bool.{agree_below, agree_below_at, cases_lt, eqb-true}
 use Rattle.std.proofs.lemmas.Nat.{or_shr, or_mod, or_shifted, xor_shr, xor_mod, and_shr, and_mod}
 use Rattle.std.specs.Int.Bits.{or_zero_r}
 use Rattle.std.proofs.Math.Arith.{digits_lt}
 use Rattle.std.proofs.Math.Pow.{high, low}
 use Rattle.choice.specs.Choice.{when◌then◌else◌, ◌=?◌}
-use Rattle.choice.proofs.Below.{all_below, all_below_lem}
-use Rattle.choice.proofs.Cases.{lt_or_le}
 use Rattle.dots.specs.Mixing.{first_of, mix}
 use Rattle.dots.specs.Bytes.{bits_per_dot, dot_of, FillByte}
 use Rattle.dots.specs.MixedBytes.{first_dots, first_byte, mix_byte, third_mix}
@@ -35,7 +34,7 @@ first_test a b = bit_or a b =? first_of a b 0
 first_or : (a b : ℕ) → a < 2 → b < 2 → bit_or a b ≡ first_of a b 0
 unfolding first_of
 first_or a b ha hb =
-    eqb→eq _ _ (all_below_lem (λ y. first_test a y) 2 (all_below_lem (λ x. all_below (λ y. first_test x y) 2) 2 tt a ha) b hb)
+    eqb-true _ _ (agree_below_at (first_test a) (λ _. true) 2 b (agree_below_at (λ x. agree_below (first_test x) (λ _. true) 2) (λ _. true) 2 a refl ha) hb)
 
 first_lt : (k a b : ℕ) → a < k → b < k → first_of a b 0 < k
 unfolding first_of
@@ -69,7 +68,7 @@ one_dot_more k j a b m r fill h em er =
 -- with e bits behind it dot j is the first of dots j
 dot_before : (k n a b j e : ℕ) → j < n → k * (j + 1) + e ≡ k * n → first_dots k n a b / 2 ^ e % 2 ^ k ≡ first_of (dot_of k a j) (dot_of k b j) 0
 dot_before k zero a b j e h q = absurd (omega (arith, h))
-dot_before k (suc n) a b j e h q = ⊎_elim (earlier (λ e' g q'. dot_before k n a b j e' g q')) last (lt_or_le j n)
+dot_before k (suc n) a b j e h q = ⊎_elim (earlier (λ e' g q'. dot_before k n a b j e' g q')) last (cases_lt j n)
   where
     whole : ℕ
     whole = first_dots k (suc n) a b

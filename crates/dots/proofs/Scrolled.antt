@@ -2,7 +2,7 @@
 use Rattle.std.proofs.Common.{ℕ, zero, suc, ◌+◌, ◌-◌, ◌*◌, ◌/◌, ◌%◌, ◌^◌, ◌<◌, ◌≤◌, List, length, get_or, take, ◌≡◌, refl, sym, ap, ◌∙◌, ⊎_elim, arith, suc-ne-zero, add-zero, one-mul, mod-lt, div-add-mod', div-lt_iff_lt-mul, mul-le-mul_right, get_or-take, shr-shr, ne_eqb}
 use Rattle.std.proofs.Math.Arith.{digits_div, digits_mod}
 use Rattle.std.proofs.Math.Pow.{high, low, field, mod-mod-pow}
-use Rattle.choice.proofs.Cases.{lt_or_le}
+use Rattle.std.proofs.lemmas.Bool.{cases_lt}
 use Rattle.dots.specs.Tables.{table}
 use Rattle.dots.specs.Bytes.{dot_of}
 use Rattle.dots.specs.Scrolled.{scrolled_byte, scrolled}
@@ -69,7 +69,7 @@ scrolled_dot : (bits p n : ℕ) (line : List ℕ) (x : ℕ) → n < p → p ≤ 
 unfolding expanded_dot scrolled
 scrolled_dot bits p zero line x np p8 one h = rw add-zero
 scrolled_dot bits p (suc m) line x np p8 one h =
-    rw (ne_eqb n 0 moved, one moved, get_or-table (length line) byte c inside) (⊎_elim within beyond (lt_or_le (j + n) p))
+    rw (ne_eqb n 0 moved, one moved, get_or-table (length line) byte c inside) (⊎_elim within beyond (cases_lt (j + n) p))
   where
     n : ℕ
     n = suc m

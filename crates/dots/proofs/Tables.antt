@@ -1,10 +1,10 @@
 -- Tables: lists by their elements.
-use Rattle.std.proofs.Common.{ℕ, ◌+◌, ◌-◌, ◌*◌, ◌/◌, ◌%◌, ◌<◌, ◌≤◌, List, ◌++◌, length, get_or, take, drop, ◌≡◌, sym, ap, ◌∙◌, subst, ⊎_elim, arith, zero-add, add-mul, one-mul, div-add-mod', mod-lt, add-sub_of_le, suc-mul, mul-le-mul_right, add-one, get_or-take, get_or-append-add, length-take-le}
+use Rattle.std.proofs.Common.{ℕ, ◌+◌, ◌-◌, ◌*◌, ◌/◌, ◌%◌, ◌<◌, ◌≤◌, List, ◌++◌, length, get_or, take, drop, ◌≡◌, sym, ap, ◌∙◌, subst, ⊎_elim, arith, zero-add, add-mul, one-mul, div-add-mod', mod-lt, add-sub_of_le, suc-mul, mul-le-mul_right, add-one, length-drop, get_or-take, get_or-append-add, length-take-le}
 use Rattle.std.proofs.lemmas.List.FromFn.{length-map-range_with_len, get_or-map-range_with_len, fill_by_all}
 use Rattle.std.proofs.Math.Arith.{digits_div, digits_mod}
 use Rattle.std.proofs.Math.ListN.{get_or-append}
-use Rattle.choice.proofs.Cases.{lt_or_le}
-use Rattle.choice.proofs.Parts.{part_length}
+use Rattle.std.proofs.Math.Nat.{add-sub_cancel_left}
+use Rattle.std.proofs.lemmas.Bool.{cases_lt}
 use Rattle.dots.specs.Tables.{table}
 
 -- Elements
@@ -33,7 +33,7 @@ element {l} {m} {n} f e q c h = ap (λ (x : List ℕ). get_or x c 0) e ∙ get_o
 -- a part more of a table: n elements from a on, the first m of which are the table's
 pub table_part : (f g : ℕ → ℕ) (l ys zs : List ℕ) (a m n : ℕ) → a ≤ length l → m ≤ n → ys ≡ table n g → ((j : ℕ) → j < m → g j ≡ f (a + j))
     → ((k : ℕ) → k < a → get_or l k 0 ≡ f k) → (k : ℕ) → k < a + m → get_or (take a l ++ (ys ++ zs)) k 0 ≡ f k
-table_part f g l ys zs a m n room mn e agree all k lt = ⊎_elim before inside (lt_or_le k a)
+table_part f g l ys zs a m n room mn e agree all k lt = ⊎_elim before inside (cases_lt k a)
   where
     front : length (take a l) ≡ a
     front = length-take-le a l room
@@ -82,7 +82,7 @@ module _ {f : ℕ → ℕ → ℕ} {n p : ℕ} {l : List ℕ} {c : ℕ} (k : Col
   next_room h = omega (arith, column_room p h, k.size)
 
   pub next_length : (end : ℕ) → end ≡ c * p + p → c < n → length (take (end - c * p) (drop (c * p) l)) ≡ p
-  next_length end e h = rw e (part_length l (c * p) p (next_room h))
+  next_length end e h = rw (e, add-sub_cancel_left) (length-take-le p (drop (c * p) l) (omega (arith, length-drop (c * p) l, next_room h)))
 
   -- it is the first p elements of a part
   pub next_column : {out ys : List ℕ} (zs : List ℕ) {m : ℕ} → c < n → out ≡ take (c * p) l ++ (ys ++ zs) → length out ≡ length l → p ≤ m → ys ≡ table m (f c)

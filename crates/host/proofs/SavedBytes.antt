@@ -2,8 +2,8 @@
 use Rattle.std.proofs.Common.{◌≡◌, ℕ, ◌+◌, ◌*◌, ◌<◌, Bool, true, false, Option, None, Some, List, length, sym, refl, ◌∙◌, arith, eqb-true}
 use mir.Val.{bool_byte}
 use Rattle.choice.specs.Choice.{◌=?◌}
-use Rattle.choice.proofs.Below.{below2, below4}
-use Rattle.choice.proofs.Cases.{both_true}
+use Rattle.std.proofs.lemmas.Bool.{and_parts}
+use Rattle.choice.proofs.Cases.{below2, below4}
 use Rattle.registers.proofs.Codes.{of_code}
 use Rattle.registers.specs.declared.Command.{Command}
 use Rattle.registers.specs.Commands.{command_of}
@@ -24,11 +24,11 @@ flag_byte false = refl
 
 pub saved_length : (s : List ℕ) → is_saved s ≡ true → length s ≡ 48
 unfolding is_saved
-saved_length s e = eqb-true _ _ (both_true (length s =? 48) (byte_at s 0 =? 1) e).0
+saved_length s e = eqb-true _ _ (and_parts (length s =? 48) (byte_at s 0 =? 1) e).0
 
 pub saved_format : (s : List ℕ) → is_saved s ≡ true → byte_at s 0 ≡ 1
 unfolding is_saved
-saved_format s e = eqb-true _ _ (both_true (length s =? 48) (byte_at s 0 =? 1) e).1
+saved_format s e = eqb-true _ _ (and_parts (length s =? 48) (byte_at s 0 =? 1) e).1
 
 -- Fields that are saved and read
 

@@ -4,7 +4,8 @@ use Rattle.std.specs.Int.{from_bool}
 use Rattle.std.proofs.Math.Bool.{and-false}
 use Rattle.std.proofs.lemmas.List.{map-append, length-map, length-replicate, get_or-replicate}
 use Rattle.choice.specs.Choice.{◌<?◌, ◌=?◌}
-use Rattle.choice.proofs.Cases.{choose, both_true}
+use Rattle.std.proofs.lemmas.Bool.{and_parts}
+use Rattle.choice.proofs.Cases.{choose}
 use Rattle.registers.specs.declared.Refusal.{Refusal}
 use Rattle.registers.specs.Refusals.{Reply, number, accepted, reply}
 use Rattle.registers.proofs.Numbers.{number_not_0}
@@ -140,8 +141,8 @@ module _ {m₀ : Machine} {bytes : List ℕ} {i refused : ℕ} {m : Machine} {an
 
 pub fitting : (bytes answers : List ℕ) → fits bytes answers ≡ true → (0 < length bytes) × (length bytes < nothing_sent) × (length answers ≡ length bytes)
 fitting bytes answers e =
-    let u = both_true _ (length bytes <? nothing_sent) e in
-    let v = both_true (length answers =? length bytes) (0 <? length bytes) u.0 in
+    let u = and_parts _ (length bytes <? nothing_sent) e in
+    let v = and_parts (length answers =? length bytes) (0 <? length bytes) u.0 in
     (ltb-true _ _ v.1, ltb-true _ _ u.1, eqb-true _ _ v.0)
 
 -- on the controller that was read, answered and saved
@@ -168,4 +169,4 @@ pub never_a_count : (s bytes answers : List ℕ) (m : Machine) → is_sendable s
 unfolding is_sendable
 never_a_count s bytes answers m e =
     let few : refusals (numbers m (bus_calls bytes)) ≤ length bytes = rw (← calls-length bytes, ← numbers-length m (bus_calls bytes)) (refusals_within (numbers m (bus_calls bytes))) in
-    lt_of_le_of_lt few (fitting bytes answers (both_true _ (is_saved s) e).0).1
+    lt_of_le_of_lt few (fitting bytes answers (and_parts _ (is_saved s) e).0).1

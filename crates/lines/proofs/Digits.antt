@@ -1,12 +1,10 @@
 -- Digits: their characters, and those of a decimal number.
-use Rattle.std.proofs.Common.{ℕ, ◌+◌, ◌%◌, ◌^◌, ◌<◌, ◌≤◌, List, [], ◌∷◌, ◌++◌, eqb, length, ◌≡◌, refl, arith, append_assoc}
-use Rattle.std.proofs.Math.Dec.{eqb→eq}
-use Rattle.std.proofs.lemmas.Bool.{lt-ltb, le-ltb}
+use Rattle.std.proofs.Common.{ℕ, ◌+◌, ◌%◌, ◌^◌, ◌<◌, ◌≤◌, true, List, [], ◌∷◌, ◌++◌, eqb, length, ◌≡◌, refl, arith, append_assoc}
+use Rattle.std.proofs.lemmas.Bool.{agree_below_at, eqb-true, lt-ltb, le-ltb}
 use Rattle.std.proofs.lemmas.Fmt.{AppendsLastDigit, decimal_from_appends, length-decimal-le, length-decimal-le_succ}
 pub use Rattle.std.proofs.lemmas.Str.{encode_ascii}
 use Rattle.std.specs.Fmt.{decimal as printed_decimal}
 use Rattle.choice.specs.Choice.{when◌then◌else◌, ◌<?◌}
-use Rattle.choice.proofs.Below.{all_below_lem}
 use Rattle.lines.specs.Lines.{digit, decimal_below, decimal}
 
 abbrev code : ℕ → ℕ
@@ -15,7 +13,7 @@ code d = when d <? 10 then 0x30 + d else 0x37 + d
 -- the characters of the digits follow each other, but for a gap before A
 pub digit_code : (d : ℕ) → d < 16 → digit d ≡ code d
 unfolding digit
-digit_code d h = eqb→eq (digit d) (code d) (all_below_lem (λ x. eqb (digit x) (code x)) 16 tt d h)
+digit_code d h = eqb-true _ _ (agree_below_at (λ x. eqb (digit x) (code x)) (λ _. true) 16 d refl h)
 
 -- the digits are what the library prints
 by_last_digit : AppendsLastDigit decimal_below

@@ -1,9 +1,9 @@
 -- The table of edges holds: one test that is computed over all of it.
-use Rattle.std.proofs.Common.{◌≡◌, ℕ, Bool, true, ◌&&◌, T, Option, None, Some, List, [], ◌∷◌, length, set, refl, ap, ◌∙◌, arith, eqb→eq, get_or-set_same, eq-eqb}
+use Rattle.std.proofs.Common.{◌≡◌, ℕ, Bool, true, ◌&&◌, Option, None, Some, List, [], ◌∷◌, length, set, refl, ap, ◌∙◌, arith, get_or-set_same, eq-eqb}
+use Rattle.std.proofs.lemmas.Bool.{and_parts, eqb-true}
 use Rattle.registers.specs.declared.Command.{Command}
 use Rattle.registers.specs.declared.Command.TheVariants.{Mwrite}
 use Rattle.choice.specs.Choice.{when◌then◌else◌, ◌<?◌, ◌=?◌}
-use Rattle.choice.proofs.Below.{both}
 use Rattle.registers.specs.Commands.{command_of, ◌is◌, parameters}
 use Rattle.registers.specs.Parameters.{begin, store, store_system, store_display, store_blocks, store_form, store_overlay, direction_of, with_low, with_high, allowed, system_allows, form_allows}
 use Rattle.registers.specs.Cursor.{next_address}
@@ -67,17 +67,17 @@ module _ (memory : List ℕ) (full : length memory ≡ memory_size) where
   each_holds (e ∷ es) = holds e && each_holds es
 
   -- a table that passes the test holds
-  all_hold : (es : List Edge) → T (each_holds es) → All (λ e. observed e.observation (call (after (reset memory) e.before) e.last) ≡ e.expected) es
+  all_hold : (es : List Edge) → each_holds es ≡ true → All (λ e. observed e.observation (call (after (reset memory) e.before) e.last) ≡ e.expected) es
   all_hold [] t = tt
   all_hold (e ∷ es) t =
-      let b = both (holds e) (each_holds es) t in (
+      let b = and_parts (holds e) (each_holds es) t in (
         ap (observed e.observation) (call_sized (after (reset memory) e.before) (after_size (reset memory) e.before ∙ full) e.last
             ∙ ap (λ (m : Machine). sized_call m e.last) (after_sized (reset memory) full e.before))
-            ∙ eqb→eq _ _ b.0,
+            ∙ eqb-true _ _ b.0,
         all_hold es b.1,
       )
 
 -- it computes but for the memory: its length, and the byte that was stored in it
 pub edges_hold : EdgesHold
 unfolding command_of begin store store_system store_display store_blocks store_form store_overlay direction_of with_low with_high allowed system_allows form_allows next_address ignored display_off take_command command_write served write_parameter in_layout field row_answer row_refusal grey_mode smooth_scroll odd_lines layer_order cursor_shape three_layers width shown_columns dots_per_column is_lit flashing is_on glyph_of
-edges_hold memory full = all_hold memory full edges (simp (get_or-set_same memory 0x7FFF 0xA5 0 (omega arith), full) tt)
+edges_hold memory full = all_hold memory full edges (simp (get_or-set_same memory 0x7FFF 0xA5 0 (omega arith), full) refl)

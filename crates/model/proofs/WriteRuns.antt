@@ -2,7 +2,8 @@
 use Rattle.std.proofs.Common.{◌≡◌, ℕ, suc, ◌+◌, ◌%◌, ◌<◌, ◌≤◌, Bool, true, false, not, ◌&&◌, T, Option, None, Some, List, [], ◌∷◌, map, length, take, set, sym, refl, ◌∙◌, subst, suc-le-suc, zero-le, le_of_suc-le-suc, add-zero, zero-add, arith, length-set, eq-eqb}
 use Rattle.std.proofs.Math.Bool.{and-false}
 use Rattle.choice.specs.Choice.{when◌then◌else◌, ◌<?◌}
-use Rattle.choice.proofs.Cases.{choose, both_true}
+use Rattle.std.proofs.lemmas.Bool.{and_parts}
+use Rattle.choice.proofs.Cases.{choose}
 use Rattle.registers.specs.declared.Command.{Command}
 use Rattle.registers.specs.declared.Command.TheVariants.{Mwrite}
 use Rattle.registers.specs.Refusals.{accepted, refused}
@@ -25,8 +26,8 @@ serves_writes (Some c) m b h = rw h
 stored : (m : Machine) (b : ℕ) → stores m ≡ true → data_write m b ≡ accept (accessed m.controller) (set m.memory m.controller.registers.cursor.address b)
 unfolding stores data_write write_memory
 stored m b h =
-    let t = both_true (sized m && served m.controller serves Mwrite) (inside m) h in
-    let u = both_true (sized m) (served m.controller serves Mwrite) t.0 in
+    let t = and_parts (sized m && served m.controller serves Mwrite) (inside m) h in
+    let u = and_parts (sized m) (served m.controller serves Mwrite) t.0 in
     rw (u.0, serves_writes (served m.controller) m b u.1, t.1)
 
 stores_accepted : (m : Machine) (b : ℕ) → stores m ≡ true → (data_write m b).reply ≡ accepted

@@ -1,12 +1,12 @@
 -- The dots of a byte under the cursor are its dots inverted. It knows no code.
-use Rattle.std.proofs.Common.{◌≡◌, ℕ, ◌+◌, ◌-◌, ◌*◌, ◌/◌, ◌%◌, ◌<◌, Bool, true, false, not, ◌&&◌, T, Option, Some, None, List, length, get_or, set, sym, refl, ◌∙◌, subst, ⊎_elim, eq-zero-or-pos, arith, eqb→eq, length-set, get_or-set_other, get_or-set_same, le-ltb, lt-ltb, eq-eqb, ne_eqb, eqb-true}
+use Rattle.std.proofs.Common.{◌≡◌, ℕ, ◌+◌, ◌-◌, ◌*◌, ◌/◌, ◌%◌, ◌<◌, Bool, true, false, not, ◌&&◌, T, Option, Some, None, List, length, get_or, set, sym, refl, ◌∙◌, subst, ⊎_elim, eq-zero-or-pos, arith, length-set, get_or-set_other, get_or-set_same, le-ltb, lt-ltb, eq-eqb, ne_eqb, eqb-true}
 use lib.Bits.{bit_xor, xor_zero_r}
 use borrow.Author.Tests.{eqb-false}
 use Rattle.registers.specs.declared.Registers.{Registers}
 use Rattle.choice.specs.Choice.{when◌then◌else◌, ◌<?◌, ◌=?◌}
 use Rattle.registers.specs.Counts.{⁅◌⁆}
-use Rattle.choice.proofs.Below.{all_below, all_below_lem, below2}
-use Rattle.choice.proofs.Cases.{lt_or_le}
+use Rattle.std.proofs.lemmas.Bool.{agree_below, agree_below_at, cases_lt}
+use Rattle.choice.proofs.Cases.{below2}
 use Rattle.dots.specs.Tables.{table}
 use Rattle.dots.specs.Bytes.{bits_per_dot, dot_of}
 use Rattle.dots.proofs.Tables.{is_table}
@@ -26,9 +26,9 @@ bits_dot : (n j : ℕ) → j < 8 → dot_of 1 (first_bits n) j ≡ (when j <? n 
 unfolding first_bits dot_of
 bits_dot n j h =
     ⊎_elim
-    (λ l. eqb→eq _ _ (all_below_lem (λ i. bits_test n i) 8 (all_below_lem (λ m. all_below (λ i. bits_test m i) 8) 8 tt n l) j h))
-    (λ l. rw (le-ltb n 8 l, lt-ltb j n (omega arith)) (eqb→eq _ _ (all_below_lem (λ i. dot_of 1 255 i =? 1) 8 tt j h)))
-    (lt_or_le n 8)
+    (λ l. eqb-true _ _ (agree_below_at (bits_test n) (λ _. true) 8 j (agree_below_at (λ m. agree_below (bits_test m) (λ _. true) 8) (λ _. true) 8 n refl l) h))
+    (λ l. rw (le-ltb n 8 l, lt-ltb j n (omega arith)) (eqb-true _ _ (agree_below_at (λ i. dot_of 1 255 i =? 1) (λ _. true) 8 j refl h)))
+    (cases_lt n 8)
 
 xor_bit : (b : Bool) (d : ℕ) → d < 2 → bit_xor d (when b then 1 else 0) ≡ (when b then 1 - d else d)
 xor_bit true d h = below2 (λ d. bit_xor d 1 ≡ 1 - d) refl refl d h

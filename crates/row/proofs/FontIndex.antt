@@ -1,7 +1,7 @@
 -- A code's glyph of the font is one of its 160.
-use Rattle.std.proofs.Common.{◌≡◌, ℕ, ◌<◌, Bool, true, false, T, subst, ltb→lt}
+use Rattle.std.proofs.Common.{◌≡◌, ℕ, ◌<◌, Bool, true, false, refl, ap, sym, ◌∙◌}
+use Rattle.std.proofs.lemmas.Bool.{agree_below_at, ltb-true}
 use Rattle.choice.specs.Choice.{◌<?◌}
-use Rattle.choice.proofs.Below.{all_below_lem}
 use Rattle.row.specs.declared.Glyph.{Glyph}
 use Rattle.row.specs.declared.Glyph.TheVariants.{Empty, Font, CgRam}
 use Rattle.row.specs.Glyphs.{glyph_of}
@@ -11,10 +11,10 @@ in_font Empty = true
 in_font (Font index) = index <? 160
 in_font CgRam = true
 
-all_in_font : (m0 : Bool) (code : ℕ) → code < 256 → T (in_font (glyph_of m0 code))
+all_in_font : (m0 : Bool) (code : ℕ) → code < 256 → in_font (glyph_of m0 code) ≡ true
 unfolding glyph_of
-all_in_font true code h = tt
-all_in_font false code h = all_below_lem (λ x. in_font (glyph_of false x)) 256 tt code h
+all_in_font true code h = refl
+all_in_font false code h = agree_below_at (λ x. in_font (glyph_of false x)) (λ _. true) 256 code refl h
 
 pub font_index_lem : (m0 : Bool) {code index : ℕ} → code < 256 → glyph_of m0 code ≡ Font index → index < 160
-font_index_lem m0 {code} {index} h e = ltb→lt index 160 (subst (λ (g : Glyph). T (in_font g)) e (all_in_font m0 code h))
+font_index_lem m0 {code} {index} h e = ltb-true index 160 (ap in_font (sym e) ∙ all_in_font m0 code h)

@@ -1,6 +1,6 @@
 -- The lines of a frame, row by row.
 use Rattle.std.proofs.Common.{◌≡◌, ℕ, zero, suc, ◌+◌, ◌++◌, refl, add-zero, ◌<◌, ◌≤◌, min, List, [], ◌∷◌, length, Result, Err, ap, ◌∙◌, subst, ⊎_elim, arith, ne_eqb}
-use Rattle.choice.proofs.Cases.{lt_or_le}
+use Rattle.std.proofs.lemmas.Bool.{cases_lt}
 use Rattle.registers.specs.declared.Count.{Count}
 use Rattle.registers.specs.declared.Refusal.{Refusal}
 use Rattle.registers.specs.Refusals.{number, reply}
@@ -66,7 +66,7 @@ module _ (m : Machine) (font : List ℕ) (frame : ℕ) where
   pub in_640 : (r : ℕ) {size : ℕ} {rows : Count} → size ≡ min 640 (frame_size m.controller.registers).width → rows ≡ (frame_size m.controller.registers).rows
       → framed r frame size rows.0 (row_of m font frame size) ≡ frame_lines r m font frame
   unfolding row_answer
-  in_640 r {size} {rows} e same = ⊎_elim wide narrow (lt_or_le 640 full)
+  in_640 r {size} {rows} e same = ⊎_elim wide narrow (cases_lt 640 full)
     where
       full : ℕ
       full = (frame_size m.controller.registers).width

@@ -1,6 +1,6 @@
 -- The loop starts behind the command byte and a run, whose answers are the zeros that were there; a turn sends a byte more.
 use Rattle.std.proofs.Common.{◌≡◌, ℕ, ◌+◌, ◌<◌, ◌≤◌, List, length, get_or, set, drop, ap, ◌∙◌, arith, length-set, length-drop, get_or-set_other}
-use Rattle.choice.proofs.Parts.{part_to_end}
+use Rattle.std.proofs.lemmas.List.{take_rest}
 use Rattle.dots.specs.Tables.{table}
 use Rattle.dots.proofs.Tables.{length_table, element}
 use Rattle.model.specs.Machine.{machine}
@@ -19,7 +19,7 @@ told_zeros l first e same k h lt = get_or-set_other l 0 k first 0 (λ z. let sam
 pub overflow_step-i : goal.overflow_step-i
 overflow_step-i c =
     let bs = drop 1 c.args.bytes.now in
-    let taken : c.write_run-taken.result ≤ length bs = rw (ap (λ (o : RunOutcome). o.length) (rw part_to_end at c.write_run-taken.ensures)) (run_within _ bs) in
+    let taken : c.write_run-taken.result ≤ length bs = rw (ap (λ (o : RunOutcome). o.length) (rw take_rest at c.write_run-taken.ensures)) (run_within _ bs) in
     omega (arith, rw length-drop at taken)
 
 pub loop-i-init : goal.loop-i-init
@@ -32,7 +32,7 @@ loop-i-init c =
     let count = counted c.command_write-first.result c.is_err.ensures.value c.from-refused.ensures c.number.ensures in
     let first = command_sent (machine c.args.c.now c.args.memory.now) c.args.bytes.now c.clear.new.line some room (c.command_write-first.ensures c.args.memory.now) c.number.ensures count in
     record {
-      sent = run_sent first (rw part_to_end at c.write_run-taken.ensures) (told_zeros c.clear.new.line c.number.result cleared same) as_long;
+      sent = run_sent first (rw take_rest at c.write_run-taken.ensures) (told_zeros c.clear.new.line c.number.result cleared same) as_long;
       few = rw count (omega (arith, one_refusal c.number.result));
       as_long = as_long;
     }

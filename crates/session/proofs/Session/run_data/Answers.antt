@@ -1,12 +1,12 @@
 use Rattle.std.proofs.Common.{◌+◌, List, ℕ, map, get_or, ap, arith, drop_of_length-le}
-use Rattle.choice.proofs.Parts.{part_to_end}
+use Rattle.std.proofs.lemmas.List.{take_rest}
 use Rattle.model.specs.Calls.{write}
 use Rattle.session.specs.Carrying.{live}
 use Rattle.session.proofs.Calls.{one_call, data_more, run_first, run_in_data, no_calls}
 use Rattle.session.proofs.Session.run_data.Goals as goal
 
 pub overflow_step-i : goal.overflow_step-i
-overflow_step-i g c = omega (arith, run_in_data c.args.payload.now _ (rw part_to_end at c.write_run-length.ensures))
+overflow_step-i g c = omega (arith, run_in_data c.args.payload.now _ (rw take_rest at c.write_run-length.ensures))
 
 pub loop-i-preserved : goal.loop-i-preserved
 loop-i-preserved g c =
@@ -22,5 +22,5 @@ returns g c =
     let a = c.args in
     let l = c.loop-i in
     let left = live l.self in
-    run_first a.«record» a.payload.now (live a.self.now) {u = left} (rw part_to_end at c.write_run-length.ensures)
+    run_first a.«record» a.payload.now (live a.self.now) {u = left} (rw take_rest at c.write_run-length.ensures)
     (l.invariant left (no_calls _ _ _ _ (ap (λ (bs : List ℕ). map write bs) (drop_of_length-le _ c.loop-i-test.false))))

@@ -1,6 +1,5 @@
 -- Tables: lists by their elements.
-use Rattle.std.proofs.Common.{ℕ, ◌+◌, ◌-◌, ◌*◌, ◌/◌, ◌%◌, ◌<◌, ◌≤◌, List, ◌++◌, length, get_or, take, drop, replicate, ◌≡◌, sym, ap, ◌∙◌, subst, ⊎_elim, arith, zero-add, add-mul, one-mul, div-add-mod', mod-lt, add-sub_of_le, suc-mul, mul-le-mul_right, add-one, get_or-take, get_or-append-add, length-take-le}
-use Rattle.std.proofs.lemmas.List.{get_or-replicate, length-replicate}
+use Rattle.std.proofs.Common.{ℕ, ◌+◌, ◌-◌, ◌*◌, ◌/◌, ◌%◌, ◌<◌, ◌≤◌, List, ◌++◌, length, get_or, take, drop, ◌≡◌, sym, ap, ◌∙◌, subst, ⊎_elim, arith, zero-add, add-mul, one-mul, div-add-mod', mod-lt, add-sub_of_le, suc-mul, mul-le-mul_right, add-one, get_or-take, get_or-append-add, length-take-le}
 use Rattle.std.proofs.lemmas.List.FromFn.{length-map-range_with_len, get_or-map-range_with_len, fill_by_all}
 use Rattle.std.proofs.Math.Arith.{digits_div, digits_mod}
 use Rattle.std.proofs.Math.ListN.{get_or-append}
@@ -22,10 +21,6 @@ get_or-table n f k h = get_or-map-range_with_len f 0 n k k 0 h (zero-add k)
 pub is_table : (n : ℕ) (f : ℕ → ℕ) (l : List ℕ) → length l ≡ n → ((k : ℕ) → k < n → get_or l k 0 ≡ f k) → l ≡ table n f
 unfolding table
 is_table n f l e h = fill_by_all f l n 0 e h
-
--- a value everywhere
-pub replicated : (n v : ℕ) → replicate n v ≡ table n (λ c. v)
-replicated n v = is_table n (λ c. v) (replicate n v) (length-replicate n v) (λ k h. get_or-replicate n k v 0 h)
 
 -- two tables are equal where the functions agree
 pub same_table : (n : ℕ) (f g : ℕ → ℕ) → ((k : ℕ) → k < n → f k ≡ g k) → table n f ≡ table n g

@@ -40,6 +40,7 @@ impl Scene<'_> {
         }
     }
 
+    // Two arms: by one over the height as a number a row of text in CG RAM costs a fifth more.
     #[tactic(auto, unfolding(crate::specs::Glyphs::cg_ram_byte))]
     fn cg_ram_byte(&self, code: u8, row: u16) -> u8
         ensures { let r = self.now.registers in result ≡ cg_ram_byte r.system.m2 r.cgram self.now.memory.now code row }

@@ -7,6 +7,7 @@ ghost use Rattle.row.specs.Dots.{dots_per_column, shown_columns, width};
 use dots::Depth;
 use registers::{Code, Registers};
 
+// The contracts here say that the grey code is below 3, and not the type: `Registers` are any that a caller hands in.
 #[tactic(auto, using(dots::proofs::CodeLaws::depth_codes))]
 pub fn depth(r: &Registers) -> Depth
     requires { r.now.grey < 3 }

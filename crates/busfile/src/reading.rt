@@ -1,4 +1,4 @@
-// A reader over lent bytes: what stands at its place, and the payload of what it found.
+// A thin reader over lent bytes: what stands at its place, and the payload of what it found, each by a function on a plain slice.
 ghost use Rattle.std.specs.Prelude.{◌≡◌};
 ghost use Rattle.busfile.specs.Records.{shape_of, record_at, part_of};
 
@@ -18,6 +18,34 @@ fn shape_of(kind: u16, size: u16) -> Option<Kind>
     }
 }
 
+// What stands at a place.
+#[tactic(auto, unfolding(crate::specs::Records::record_at))]
+fn record_at(s: &[u8], at: usize) -> Found
+    ensures { result ≡ record_at s.now at }
+{
+    let left = rest(s, at);
+    if left.is_empty() {
+        return Found::End;
+    }
+    if left.len() < 4 {
+        return Found::Bad;
+    }
+    let size = word(left);
+    let Some(kind) = shape_of(word(rest(left, 2)), size) else {
+        return Found::Bad;
+    };
+    let length = usize::from(size);
+    if left.len() - 4 < length {
+        return Found::Bad;
+    }
+    let start = at + 4;
+    Found::Record(Record {
+        kind,
+        start,
+        end: start + length,
+    })
+}
+
 impl<'a> Reader<'a> {
     pub fn new(bytes: &'a [u8], at: usize) -> Reader<'a>
         ensures bytes { result.bytes ≡ bytes.entry }
@@ -27,31 +55,10 @@ impl<'a> Reader<'a> {
     }
 
     // What stands at the reader's place.
-    #[tactic(auto, unfolding(crate::specs::Records::record_at))]
     pub fn found(self) -> Found
         ensures { result ≡ record_at self.entry.bytes.now self.entry.at }
     {
-        let left = rest(self.bytes, self.at);
-        if left.is_empty() {
-            return Found::End;
-        }
-        if left.len() < 4 {
-            return Found::Bad;
-        }
-        let size = word(left);
-        let Some(kind) = shape_of(word(rest(left, 2)), size) else {
-            return Found::Bad;
-        };
-        let length = usize::from(size);
-        if left.len() - 4 < length {
-            return Found::Bad;
-        }
-        let start = self.at + 4;
-        Found::Record(Record {
-            kind,
-            start,
-            end: start + length,
-        })
+        record_at(self.bytes, self.at)
     }
 
     // A record's payload, as the part of the lent bytes that it is: no copy.

@@ -45,10 +45,10 @@ pub extern "C" fn granivolche_command_write(controller: &mut [u8], byte: u8) -> 
     ensures { (memory : List ℕ) → returned result controller.new memory
         ≡ after_call controller.old memory (command byte) }
 {
-    let Some(mut c) = read(controller) else {
+    let Some(c) = read(controller) else {
         return NO_CONTROLLER;
     };
-    let answer = c.command_write(byte);
+    let (c, answer) = c.command_write(byte);
     write(&c, controller);
     u32::from(number(answer))
 }
@@ -59,10 +59,10 @@ pub extern "C" fn granivolche_data_write(controller: &mut [u8], memory: &mut [u8
     ensures { returned result controller.new memory.new
         ≡ after_call controller.old memory.old (write byte) }
 {
-    let Some(mut c) = read(controller) else {
+    let Some(c) = read(controller) else {
         return NO_CONTROLLER;
     };
-    let answer = c.data_write(memory, byte);
+    let (c, answer) = c.data_write(memory, byte);
     write(&c, controller);
     u32::from(number(answer))
 }
@@ -73,10 +73,10 @@ pub extern "C" fn granivolche_data_read(controller: &mut [u8], memory: &[u8]) ->
     ensures { returned result controller.new memory.now
         ≡ after_call controller.old memory.now read }
 {
-    let Some(mut c) = read(controller) else {
+    let Some(c) = read(controller) else {
         return NO_CONTROLLER;
     };
-    let answer = c.data_read(memory);
+    let (c, answer) = c.data_read(memory);
     write(&c, controller);
     read_number(answer)
 }

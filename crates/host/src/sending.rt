@@ -11,22 +11,23 @@ use dots::clear;
 use model::Controller;
 
 // The first data writes that go into memory are one run, and answered by the zeros that are there already.
-fn send(c: &mut Controller, memory: &mut [u8], bytes: &[u8], answers: &mut [u8]) -> u32
+fn send(c: Controller, memory: &mut [u8], bytes: &[u8], answers: &mut [u8]) -> (Controller, u32)
     requires { (0 < length bytes.now) × (length bytes.now < nothing_sent) × (length answers.old ≡ length bytes.now) }
-    ensures { sent_outcome c.new result memory.new answers.new
-        ≡ send_outcome (machine c.old memory.old) bytes.now }
+    ensures { sent_outcome result.0 result.1 memory.new answers.new
+        ≡ send_outcome (machine c memory.old) bytes.now }
 {
     clear(answers);
-    let first = c.command_write(bytes[0]);
+    let (c, first) = c.command_write(bytes[0]);
     answers[0] = number(first);
     let mut refused = u32::from(first.is_err());
-    let taken = c.write_run(memory, &bytes[1..]);
+    let (mut c, taken) = c.write_run(memory, &bytes[1..]);
     for i in 1 + taken..bytes.len() {
-        let answer = c.data_write(memory, bytes[i]);
+        let (next, answer) = c.data_write(memory, bytes[i]);
+        c = next;
         answers[i] = number(answer);
         refused += u32::from(answer.is_err());
     }
-    refused
+    (c, refused)
 }
 
 // Whether bytes can be sent, with an answer for each.
@@ -49,10 +50,10 @@ pub extern "C" fn granivolche_send(
     if !fits(bytes, answers) {
         return NOTHING_SENT;
     }
-    let Some(mut c) = read(controller) else {
+    let Some(c) = read(controller) else {
         return NOTHING_SENT;
     };
-    let refused = send(&mut c, memory, bytes, answers);
+    let (c, refused) = send(c, memory, bytes, answers);
     write(&c, controller);
     refused
 }

@@ -78,7 +78,7 @@ impl Controller {
     }
 
     #[tactic(auto, unfolding(crate::specs::Bus::command_write, crate::specs::Bus::take_command))]
-    pub fn command_write(&mut self, b: u8) -> Result<(), Refusal>
+    fn take_command(&mut self, b: u8) -> Result<(), Refusal>
         ensures { (memory : List ℕ) → written_outcome self.new result memory ≡ command_write (machine self.old memory) b }
     {
         // A refused byte ends the pending command too.
@@ -112,7 +112,7 @@ impl Controller {
     }
 
     #[tactic(auto, unfolding(crate::specs::Bus::data_write, crate::specs::Bus::write_data))]
-    pub fn data_write(&mut self, memory: &mut [u8], b: u8) -> Result<(), Refusal>
+    fn take_data(&mut self, memory: &mut [u8], b: u8) -> Result<(), Refusal>
         ensures { written_outcome self.new result memory.new ≡ data_write (machine self.old memory.old) b }
     {
         if memory.len() != MEMORY_SIZE {
@@ -127,23 +127,8 @@ impl Controller {
         }
     }
 
-    // The data writes of as many bytes, from the first on, as go into memory and are accepted; how many they are.
-    #[tactic(auto, unfolding(crate::specs::WriteRun::stores))]
-    pub fn write_run(&mut self, memory: &mut [u8], bytes: &[u8]) -> usize
-        ensures { write_run_outcome self.new result memory.new ≡ run_outcome (machine self.old memory.old) bytes.now }
-    {
-        let Some(memory) = memory.as_mut_array::<MEMORY_SIZE>() else {
-            return 0;
-        };
-        if self.serves(Command::Mwrite) {
-            self.write_memory_run(memory, bytes)
-        } else {
-            0
-        }
-    }
-
     #[tactic(auto, unfolding(crate::specs::Bus::data_read, crate::specs::Bus::read_data, crate::specs::Bus::read_cursor))]
-    pub fn data_read(&mut self, memory: &[u8]) -> Result<u8, Refusal>
+    fn give_data(&mut self, memory: &[u8]) -> Result<u8, Refusal>
         ensures { read_outcome self.new result memory.now ≡ data_read (machine self.old memory.now) }
     {
         if memory.len() != MEMORY_SIZE {
@@ -158,5 +143,50 @@ impl Controller {
             }
             _ => Err(Refusal::NothingToRead),
         }
+    }
+
+    #[tactic(auto, unfolding(crate::specs::WriteRun::stores))]
+    fn take_run(&mut self, memory: &mut [u8], bytes: &[u8]) -> usize
+        ensures { write_run_outcome self.new result memory.new ≡ run_outcome (machine self.old memory.old) bytes.now }
+    {
+        let Some(memory) = memory.as_mut_array::<MEMORY_SIZE>() else {
+            return 0;
+        };
+        if self.serves(Command::Mwrite) {
+            self.write_memory_run(memory, bytes)
+        } else {
+            0
+        }
+    }
+
+    // The calls: each hands back the controller as it leaves it, and what it answers
+
+    pub fn command_write(mut self, b: u8) -> (Controller, Result<(), Refusal>)
+        ensures { (memory : List ℕ) → written_outcome result.0 result.1 memory ≡ command_write (machine self memory) b }
+    {
+        let answer = self.take_command(b);
+        (self, answer)
+    }
+
+    pub fn data_write(mut self, memory: &mut [u8], b: u8) -> (Controller, Result<(), Refusal>)
+        ensures { written_outcome result.0 result.1 memory.new ≡ data_write (machine self memory.old) b }
+    {
+        let answer = self.take_data(memory, b);
+        (self, answer)
+    }
+
+    pub fn data_read(mut self, memory: &[u8]) -> (Controller, Result<u8, Refusal>)
+        ensures { read_outcome result.0 result.1 memory.now ≡ data_read (machine self memory.now) }
+    {
+        let answer = self.give_data(memory);
+        (self, answer)
+    }
+
+    // The data writes of as many bytes, from the first on, as go into memory and are accepted; how many they are.
+    pub fn write_run(mut self, memory: &mut [u8], bytes: &[u8]) -> (Controller, usize)
+        ensures { write_run_outcome result.0 result.1 memory.new ≡ run_outcome (machine self memory.old) bytes.now }
+    {
+        let length = self.take_run(memory, bytes);
+        (self, length)
     }
 }

@@ -9,6 +9,9 @@ pub fetch_at : (memory : List ℕ) (a b : ℕ) → a % 65536 ≡ b % 65536 → f
 unfolding fetch
 fetch_at memory a b e = ap (λ (x : ℕ). get_or memory x 0) e
 
+pub fetch_mod : (memory : List ℕ) (a : ℕ) → fetch memory (a % 65536) ≡ fetch memory a
+fetch_mod memory a = fetch_at memory (a % 65536) a (omega arith)
+
 -- bytes copied from a part of memory
 pub bytes_copied : (memory line src : List ℕ) (at : ℕ) → at + length line ≤ length memory → length memory ≤ 65536 → src ≡ take (length line) (drop at memory)
     → src ≡ table (length line) (λ c. fetch memory (at + c))

@@ -27,8 +27,10 @@ fn memory_bytes(memory: &[u8; MEMORY_SIZE], start: u16, line: &mut [u8])
     if end <= memory.len() {
         line.copy_from_slice(&memory[at..end]);
     } else {
-        for (c, byte) in line.iter_mut().enumerate() {
-            *byte = fetch(memory, at + c);
+        let mut address = start;
+        for byte in line.iter_mut() {
+            *byte = fetch(memory, address);
+            address = address.wrapping_add(1);
         }
     }
 }

@@ -6,12 +6,12 @@ use crate::Glyph;
 use crate::scene::Scene;
 use registers::MEMORY_SIZE;
 
-// The byte at an address modulo 65,536; past the end of memory 0.
+// A fetch past the end of memory gives 0.
 #[tactic(auto, unfolding(crate::specs::Glyphs::fetch))]
-pub fn fetch(memory: &[u8; MEMORY_SIZE], address: usize) -> u8
+pub fn fetch(memory: &[u8; MEMORY_SIZE], address: u16) -> u8
     ensures { result ≡ fetch memory.now address }
 {
-    memory.get(address % 65536).copied().unwrap_or(0)
+    memory.get(usize::from(address)).copied().unwrap_or(0)
 }
 
 #[tactic(auto, unfolding(crate::specs::Glyphs::glyph_of))]
@@ -40,16 +40,17 @@ impl Scene<'_> {
         }
     }
 
+    // Two arms: by one over the height as a number a row of text in CG RAM costs a fifth more.
     #[tactic(auto, unfolding(crate::specs::Glyphs::cg_ram_byte))]
     fn cg_ram_byte(&self, code: u8, row: u16) -> u8
         ensures { let r = self.now.registers in result ≡ cg_ram_byte r.system.m2 r.cgram self.now.memory.now code row }
     {
         let r = &self.registers;
-        let at = usize::from(r.cgram) + usize::from(row);
+        let at = r.cgram.wrapping_add(row);
         if r.system.m2 {
-            fetch(self.memory, at + usize::from(code) * 16)
+            fetch(self.memory, at.wrapping_add(u16::from(code) * 16))
         } else if row < 8 {
-            fetch(self.memory, at + usize::from(code) * 8)
+            fetch(self.memory, at.wrapping_add(u16::from(code) * 8))
         } else {
             0
         }

@@ -2,26 +2,24 @@
 ghost use Rattle.std.specs.Prelude.{◌≡◌, ◌<◌, OnOk};
 ghost use Rattle.registers.specs.Refusals.{reply};
 ghost use Rattle.registers.specs.Sizes.{memory_size, font_size};
-ghost use Rattle.dots.specs.Bytes.{depth_code};
 ghost use Rattle.row.specs.Refusals.{grey_mode, smooth_scroll, odd_lines, layer_order, cursor_shape, row_refusal};
 
 use crate::layers::three_layers;
-use crate::width::{depth, row_width};
-use dots::Depth;
+use crate::width::row_width;
 use registers::{Blocks, Code, CursorForm, Overlay, Refusal, Registers};
 
 #[tactic(auto, unfolding(crate::specs::Refusals::grey_mode))]
-fn grey_mode(depth: Depth, o: Overlay, fx: Code) -> bool
-    ensures { result ≡ grey_mode (depth_code depth) o fx }
+fn grey_mode(grey: u8, o: Overlay, fx: Code) -> bool
+    ensures { result ≡ grey_mode grey o fx }
 {
-    depth != Depth::One && (!o.dm2 || !o.dm1 || fx.count().0 != 8)
+    grey != 0 && (!o.dm2 || !o.dm1 || fx.count().0 != 8)
 }
 
 #[tactic(auto, unfolding(crate::specs::Refusals::smooth_scroll))]
-fn smooth_scroll(hdot: u8, depth: Depth, fx: Code, cr: Code) -> bool
-    ensures { result ≡ smooth_scroll hdot (depth_code depth) fx cr }
+fn smooth_scroll(hdot: u8, grey: u8, fx: Code, cr: Code) -> bool
+    ensures { result ≡ smooth_scroll hdot grey fx cr }
 {
-    hdot != 0 && (depth != Depth::One || fx.count().0 <= u16::from(hdot) || cr.count().0 == 1)
+    hdot != 0 && (grey != 0 || fx.count().0 <= u16::from(hdot) || cr.count().0 == 1)
 }
 
 #[tactic(auto, unfolding(crate::specs::Refusals::odd_lines))]
@@ -53,15 +51,14 @@ pub fn check_row(r: &Registers, n: u32, buffer_length: usize) -> Result<(), Refu
     ensures n_bound { OnOk result (n < 65536) }
 {
     let s = &r.system;
-    let depth = depth(r);
     let width = row_width(r);
-    if grey_mode(depth, r.overlay, s.fx) {
+    if grey_mode(r.grey, r.overlay, s.fx) {
         return Err(Refusal::GreyMode);
     }
     if 8 < s.fx.count().0 {
         return Err(Refusal::CharacterWidth);
     }
-    if smooth_scroll(r.hdot, depth, s.fx, s.cr) {
+    if smooth_scroll(r.hdot, r.grey, s.fx, s.cr) {
         return Err(Refusal::SmoothScroll);
     }
     if 640 < width {

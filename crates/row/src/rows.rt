@@ -67,10 +67,9 @@ impl Scene<'_> {
         let mut buffer = [0u8; 256];
         let line = &mut buffer[..count];
         self.mix_layers(n, line, &mut out[..count]);
-        let depth = depth(r);
-        let per = dots_per_column(depth, r.system.fx);
+        let per = dots_per_column(r.grey, r.system.fx);
         let shown = shown_columns(r.hdot, r.system.cr);
-        expand_scrolled(depth, per, usize::from(r.hdot), shown, line, out);
+        expand_scrolled(depth(r), per, usize::from(r.hdot), shown, line, out);
     }
 }
 

@@ -7,6 +7,7 @@ ghost use Rattle.row.specs.Dots.{dots_per_column, shown_columns, width};
 use dots::Depth;
 use registers::{Code, Registers};
 
+// The contracts here say that the grey code is below 3, and not the type: `Registers` are any that a caller hands in.
 #[tactic(auto, using(dots::proofs::CodeLaws::depth_codes))]
 pub fn depth(r: &Registers) -> Depth
     requires { r.now.grey < 3 }
@@ -15,14 +16,16 @@ pub fn depth(r: &Registers) -> Depth
     r.grey.into()
 }
 
+// By the code: by its Depth a row that is refused costs a tenth more.
 #[tactic(auto, unfolding(crate::specs::Dots::dots_per_column))]
-pub fn dots_per_column(depth: Depth, fx: Code) -> usize
-    ensures { (result ≡ dots_per_column (depth_code depth) fx) × (result ≤ 256) }
+pub fn dots_per_column(grey: u8, fx: Code) -> usize
+    requires { grey < 3 }
+    ensures { (result ≡ dots_per_column grey fx) × (result ≤ 256) }
 {
-    match depth {
-        Depth::One => usize::from(fx.count().0),
-        Depth::Two => 4,
-        Depth::Four => 2,
+    match grey {
+        0 => usize::from(fx.count().0),
+        1 => 4,
+        _ => 2,
     }
 }
 
@@ -47,5 +50,5 @@ pub fn row_width(r: &Registers) -> usize
     requires { r.now.grey < 3 }
     ensures { result ≡ width r.now }
 {
-    shown_columns(r.hdot, r.system.cr) * dots_per_column(depth(r), r.system.fx)
+    shown_columns(r.hdot, r.system.cr) * dots_per_column(r.grey, r.system.fx)
 }

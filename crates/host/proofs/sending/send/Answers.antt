@@ -19,7 +19,7 @@ told_zeros l first e same k h lt = get_or-set_other l 0 k first 0 (λ z. let sam
 pub overflow_step-i : goal.overflow_step-i
 overflow_step-i c =
     let bs = drop 1 c.args.bytes.now in
-    let taken : c.write_run-taken.result ≤ length bs = rw (ap (λ (o : RunOutcome). o.length) (rw take_rest at c.write_run-taken.ensures)) (run_within _ bs) in
+    let taken : c.write_run-taken.result.1 ≤ length bs = rw (ap (λ (o : RunOutcome). o.length) (rw take_rest at c.write_run-taken.ensures)) (run_within _ bs) in
     omega (arith, rw length-drop at taken)
 
 pub loop-i-init : goal.loop-i-init
@@ -29,8 +29,8 @@ loop-i-init c =
     let same = c.requires.2 in
     let as_long = told_length c.clear.new.line _ c.number.result cleared ∙ same in
     let room : 0 < length c.clear.new.line = rw (cleared, length_table, same) some in
-    let count = counted c.command_write-first.result c.is_err.ensures.value c.from-refused.ensures c.number.ensures in
-    let first = command_sent (machine c.args.c.now c.args.memory.now) c.args.bytes.now c.clear.new.line some room (c.command_write-first.ensures c.args.memory.now) c.number.ensures count in
+    let count = counted c.command_write-first.result.1 c.is_err.ensures.value c.from-refused.ensures c.number.ensures in
+    let first = command_sent (machine c.args.c c.args.memory.now) c.args.bytes.now c.clear.new.line some room (c.command_write-first.ensures c.args.memory.now) c.number.ensures count in
     record {
       sent = run_sent first (rw take_rest at c.write_run-taken.ensures) (told_zeros c.clear.new.line c.number.result cleared same) as_long;
       few = rw count (omega (arith, one_refusal c.number.result));
@@ -41,7 +41,7 @@ pub loop-i-preserved : goal.loop-i-preserved
 loop-i-preserved c =
     let l = c.loop-i in
     let n = c.number-in-loop-i in
-    let count = counted c.data_write-answer.result c.is_err-in-loop-i.ensures.value c.from-refused-in-loop-i.ensures n.ensures in
+    let count = counted c.data_write-answer.result.1 c.is_err-in-loop-i.ensures.value c.from-refused-in-loop-i.ensures n.ensures in
     record {
       sent = write_sent l.invariant.sent c.loop-i-test.true (rw l.invariant.as_long c.loop-i-test.true) c.data_write-answer.ensures n.ensures (ap (λ (k : ℕ). l.refused + k) count);
       few = rw count (omega (arith, l.invariant.few, one_refusal n.result));

@@ -36,7 +36,7 @@ expand_scrolled-requires c =
     let shown = c.shown_columns-shown.ensures.0 in
     let scroll = scroll_fits r s.composable in
     let line : length c.mix_layers.new.line ≡ c.columns-count.result = c.mix_layers.auto.line ∙ length-take-le c.columns-count.result _ c.columns-count.ensures.1 in
-    rw (c.dots_per_column-per.ensures.0, c.depth-depth.ensures, c.from.ensures) (
+    rw (c.dots_per_column-per.ensures.0, c.depth.ensures, c.from.ensures) (
       (columns_fit r s.composable).1,
       scroll.0,
       scroll.1,
@@ -50,4 +50,4 @@ pub returns : goal.returns
 returns c =
     let s = c.args.self.now in
     expanded s.registers s.memory.now s.font.now s.frame c.args.n c.mix_layers.new.line s.composable c.shown_columns-shown.ensures.0 c.mix_layers.ensures
-    (rw (c.dots_per_column-per.ensures.0, c.depth-depth.ensures, c.from.ensures) at c.expand_scrolled.ensures.out_after)
+    (rw (c.dots_per_column-per.ensures.0, c.depth.ensures, c.from.ensures) at c.expand_scrolled.ensures.out_after)

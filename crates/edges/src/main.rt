@@ -7,10 +7,12 @@ use registers::{FONT_SIZE, MEMORY_SIZE, Refusal};
 
 // SYSTEM SET for one column of 8 dots and [L/F] 2.
 fn two_lines(memory: &mut [u8]) -> Result<Controller, Refusal> {
-    let mut c = Controller::reset();
-    c.command_write(0x40)?;
+    let (mut c, answer) = Controller::reset().command_write(0x40);
+    answer?;
     for parameter in [0x10, 7, 7, 0, 4, 1] {
-        c.data_write(memory, parameter)?;
+        let (next, answer) = c.data_write(memory, parameter);
+        answer?;
+        c = next;
     }
     Ok(c)
 }

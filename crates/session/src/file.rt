@@ -63,19 +63,20 @@ impl<'r, 'w, P: Print> Step<'r, 'w, P> {
         }
         let number = self.good.wrapping_add(1);
         let reader = Reader::new(file, self.at);
-        match reader.found() {
-            Found::Record(record) => {
-                self.session
-                    .run_record(record.kind, reader.payload(record), number);
-                self.at = record.end;
-                self.good = number;
-            }
-            Found::Bad => {
-                self.session.output.print_line(Line::Bad(number));
-                self.more = false;
-            }
-            Found::End => self.more = false,
+        let found = reader.found();
+        if found == Found::End {
+            self.more = false;
+            return;
         }
+        let Found::Record(record) = found else {
+            self.session.output.print_line(Line::Bad(number));
+            self.more = false;
+            return;
+        };
+        self.session
+            .run_record(record.kind, reader.payload(record), number);
+        self.at = record.end;
+        self.good = number;
     }
 
     // Prints the last line, and writes out what the buffer holds.

@@ -11,7 +11,8 @@ impl<P: Print> Session<'_, '_, P> {
     fn run_command(&mut self, b: u8, record: u64)
         ensures { CarriesOutCalls «record» 1 (command b ∷ []) (live self.old) (live self.new) }
     {
-        let answer = self.controller.command_write(b);
+        let (controller, answer) = self.controller.command_write(b);
+        self.controller = controller;
         self.output.print_answer(answer, record, 1);
     }
 
@@ -21,9 +22,11 @@ impl<P: Print> Session<'_, '_, P> {
         ensures { CarriesOutCalls «record» 2 (map write (drop 1 payload.now))
             (live self.old) (live self.new) }
     {
-        let length = self.controller.write_run(self.memory, &payload[1..]);
+        let (controller, length) = self.controller.write_run(self.memory, &payload[1..]);
+        self.controller = controller;
         for i in 1 + length..payload.len() {
-            let answer = self.controller.data_write(self.memory, payload[i]);
+            let (controller, answer) = self.controller.data_write(self.memory, payload[i]);
+            self.controller = controller;
             self.output.print_answer(answer, record, i as u64 + 1);
         }
     }
@@ -42,7 +45,8 @@ impl<P: Print> Session<'_, '_, P> {
         ensures { CarriesOutCalls «record» index (read ∷ []) (live self.old) (live self.new) }
     {
         let memory = &mut *self.memory;
-        let answer = self.controller.data_read(memory);
+        let (controller, answer) = self.controller.data_read(memory);
+        self.controller = controller;
         self.output.print_read(answer, record, index);
     }
 

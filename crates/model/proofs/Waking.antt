@@ -1,5 +1,5 @@
 -- Request #102: a display that is off or asleep stays dark until DISP ON; from reset, it is on while the chip is asleep.
-use Rattle.std.proofs.Common.{◌≡◌, ℕ, Bool, true, false, not, ◌&&◌, ◌≢◌, Option, None, Some, List, [], ◌∷◌, length, sym, refl, ap, ◌∙◌, subst, eqb-true}
+use Rattle.std.proofs.Common.{◌≡◌, ℕ, Bool, true, false, not, ◌&&◌, ◌≢◌, List, [], ◌∷◌, length, sym, refl, ap, ◌∙◌, subst, eqb-true}
 use Rattle.std.proofs.Math.Bool.{and-false}
 use Rattle.registers.specs.declared.Command.{Command}
 use Rattle.registers.specs.declared.Command.TheVariants.{SleepIn, Disp}

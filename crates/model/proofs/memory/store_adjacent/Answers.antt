@@ -1,5 +1,5 @@
 use Rattle.std.proofs.Common.{◌≡◌, length, take, zero-add, arith, length-take-le}
-use Rattle.model.proofs.Strides.{none_stored, adjacent, put_back}
+use Rattle.model.proofs.Strides.{adjacent, put_back}
 use Rattle.model.proofs.memory.store_adjacent.Goals as goal
 
 pub returns : goal.returns

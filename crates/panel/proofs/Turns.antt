@@ -1,12 +1,5 @@
 -- One turn: the file is read on, and a record is carried out in the part at hand.
-use Prim.Native.Nat.{ℕ, suc, ◌≤◌}
-use mathlib.Core.Bool.{Bool, true, false}
-use mathlib.Core.List.{List, [], ◌++◌}
-use mathlib.Core.Logic.{◌⊎◌, inl}
-use mathlib.Core.Path.{◌≡◌, refl, sym, ap, subst, ◌∙◌}
-use native.Mathlib.Omega.{arith}
-use lib.ListN.{length}
-use lib.Seq.{length-take-le}
+use Rattle.std.proofs.Common.{◌≡◌, ℕ, suc, ◌≤◌, Bool, true, false, ◌⊎◌, List, [], ◌++◌, length, refl, sym, ap, subst, ◌∙◌, inl, arith, length-take-le}
 use Rattle.session.specs.declared.Step.{Step}
 use Rattle.session.specs.Output.{buffer_of, flushes, OpenAfter}
 use Rattle.session.specs.File.{Progress, progress, next_step, step_lines}

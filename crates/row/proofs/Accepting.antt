@@ -1,6 +1,6 @@
 -- What an accepted row has, and what a row leaves.
 use Rattle.std.proofs.Common.{◌≡◌, ℕ, suc, ◌+◌, ◌<◌, ◌≤◌, Bool, true, false, not, ◌&&◌, ◌||◌, T, Ok, Err, List, length, sym, refl, ◌∙◌, subst, arith, ltb-false, ltb-true, lt-ltb, ne_eqb, eqb-true, leb-false}
-use borrow.Author.Tests.{lt-leb, eqb-false, not-false}
+use Rattle.std.proofs.lemmas.Bool.{lt-leb, eqb-false, not-false}
 use Rattle.registers.specs.declared.Refusal.{Refusal}
 use Rattle.registers.specs.declared.Refusal.TheVariants.{MemorySize, FontSize}
 use Rattle.registers.specs.declared.Registers.{Registers}

@@ -1,11 +1,10 @@
 -- The dots of a byte under the cursor are its dots inverted. It knows no code.
-use Rattle.std.proofs.Common.{◌≡◌, ℕ, ◌+◌, ◌-◌, ◌*◌, ◌/◌, ◌%◌, ◌<◌, Bool, true, false, not, ◌&&◌, T, Option, Some, None, List, length, get_or, set, sym, refl, ◌∙◌, subst, ⊎_elim, eq-zero-or-pos, arith, length-set, get_or-set_other, get_or-set_same, le-ltb, lt-ltb, eq-eqb, ne_eqb, eqb-true}
-use lib.Bits.{bit_xor, xor_zero_r}
-use borrow.Author.Tests.{eqb-false}
+use Rattle.std.proofs.Common.{◌≡◌, ℕ, ◌+◌, ◌-◌, ◌*◌, ◌/◌, ◌%◌, ◌<◌, Bool, true, false, not, ◌&&◌, T, Option, Some, None, List, length, get_or, set, sym, refl, ◌∙◌, subst, ⊎_elim, eq-zero-or-pos, arith, bit_xor, length-set, get_or-set_other, get_or-set_same, le-ltb, lt-ltb, eq-eqb, ne_eqb, eqb-true}
+use Rattle.std.specs.Int.Bits.{xor_zero_r}
 use Rattle.registers.specs.declared.Registers.{Registers}
 use Rattle.choice.specs.Choice.{when◌then◌else◌, ◌<?◌, ◌=?◌}
 use Rattle.registers.specs.Counts.{⁅◌⁆}
-use Rattle.std.proofs.lemmas.Bool.{agree_below, agree_below_at, cases_lt}
+use Rattle.std.proofs.lemmas.Bool.{agree_below, agree_below_at, cases_lt, eqb-false}
 use Rattle.choice.proofs.Cases.{below2}
 use Rattle.dots.specs.Tables.{table}
 use Rattle.dots.specs.Bytes.{bits_per_dot, dot_of}

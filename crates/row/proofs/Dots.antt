@@ -1,7 +1,7 @@
 -- The dots of the bytes that the stages leave are the dots that the definition gives. It knows no code.
 use Rattle.std.proofs.Common.{◌≡◌, ℕ, ◌+◌, ◌-◌, ◌*◌, ◌/◌, ◌%◌, ◌<◌, Bool, false, T, Option, None, Some, is_some, List, refl, subst, get_or, replicate, sym, ap, ◌∙◌, mod-lt, mod-eq_of_lt, div-lt_iff_lt-mul, arith, pow_pos}
-use native.Mathlib.Nat.{div-eq_of_lt}
-use lib.ListN.{length-replicate, get_or-replicate}
+use Rattle.std.proofs.Math.Nat.{div-eq_of_lt}
+use Rattle.std.proofs.lemmas.List.{length-replicate, get_or-replicate}
 use Rattle.registers.specs.declared.Registers.{Registers}
 use Rattle.choice.specs.Choice.{when◌then◌else◌}
 use Rattle.registers.specs.Counts.{⁅◌⁆}

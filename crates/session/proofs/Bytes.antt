@@ -1,5 +1,5 @@
 -- Bytes stay bytes: those of a payload, and L/F while its calls are carried out.
-use Rattle.std.proofs.Common.{ℕ, not, Option, None, Some, zero, suc, ◌-◌, List, [], ◌∷◌, map, take, drop, replicate}
+use Rattle.std.proofs.Common.{ℕ, zero, suc, ◌-◌, List, [], ◌∷◌, map, take, drop, replicate}
 use Rattle.registers.specs.declared.Code.{Code}
 use Rattle.registers.specs.declared.Command.{Command}
 use Rattle.registers.specs.declared.Command.TheVariants.{SystemSet}
@@ -7,13 +7,13 @@ use Rattle.registers.specs.declared.System.{System}
 use Rattle.registers.specs.declared.Registers.{Registers}
 use Rattle.choice.specs.Choice.{◌=?◌}
 use Rattle.choice.proofs.Cases.{choose}
-use Rattle.registers.specs.Commands.{command_of, ◌is◌}
+use Rattle.registers.specs.Commands.{◌is◌}
 use Rattle.registers.specs.Parameters.{begin, store, store_system}
-use Rattle.model.specs.Bus.{sized, served, take_command, command_write, write_data, data_write, read_data, data_read, write_memory, write_parameter, read_memory, read_cursor}
 use Rattle.model.specs.Calls.{BusCall, command, write, read, call, after}
-use Rattle.model.specs.Machine.{Machine, Outcome}
+use Rattle.model.specs.Machine.{Machine}
 use Rattle.model.specs.Demand.{OnBus}
 use Rattle.model.specs.Refresh.{All, Byte}
+use Rattle.model.proofs.Runs.{command_leaves, write_leaves, read_leaves}
 use Rattle.busfile.specs.declared.Kind.{Kind}
 use Rattle.busfile.specs.declared.Kind.TheVariants.{Bus, Reads, Frame}
 use Rattle.busfile.specs.Records.{word_of, part_of}
@@ -49,9 +49,6 @@ record_bytes Frame payload h = tt
 abbrev pub LfByte : Machine → Type 0
 LfByte m = Byte m.controller.registers.system.lf.0
 
-abbrev Keeps : Outcome → Type 0
-Keeps o = LfByte o.machine
-
 -- a parameter leaves it as it was, or sets it to a byte
 store_keeps : (c : Command) (place b : ℕ) (r : Registers) → Byte b → Byte r.system.lf.0 → Byte (store c place b r).system.lf.0
 unfolding store store_system
@@ -61,27 +58,11 @@ store_keeps c place b r h l =
     (λ e. l)
 
 -- no call but a parameter's touches it
-
-taken_keeps : (o : Option Command) (m : Machine) (b : ℕ) → LfByte m → Keeps (take_command o m b)
-unfolding take_command begin
-taken_keeps None m b l = l
-taken_keeps (Some c) m b l = search (choose Keeps, l) depth 12
-
-written_keeps : (o : Option Command) (m : Machine) (b : ℕ) → Byte b → LfByte m → Keeps (write_data o m b)
-unfolding write_data write_memory write_parameter
-written_keeps None m b h l = l
-written_keeps (Some c) m b h l = let stored = store_keeps c m.controller.pending.place b m.controller.registers h l in search (choose Keeps, l, stored) depth 12
-
-read_keeps : (o : Option Command) (m : Machine) → LfByte m → Keeps (read_data o m)
-unfolding read_data read_memory read_cursor
-read_keeps None m l = l
-read_keeps (Some c) m l = search (choose Keeps, l) depth 12
-
-call_keeps : (m : Machine) (c : BusCall) → OnBus c → LfByte m → Keeps (call m c)
-unfolding command_write data_write data_read
-call_keeps m (command b) h l = taken_keeps (command_of b) m b l
-call_keeps m (write b) h l = choose Keeps (not (sized m)) _ _ (λ e. l) (λ e. written_keeps (served m.controller) m b h l)
-call_keeps m read h l = choose Keeps (not (sized m)) _ _ (λ e. l) (λ e. read_keeps (served m.controller) m l)
+call_keeps : (m : Machine) (c : BusCall) → OnBus c → LfByte m → LfByte (call m c).machine
+unfolding begin
+call_keeps m (command b) h l = command_leaves (λ r bs. Byte r.system.lf.0) m b l (λ c awake on. l)
+call_keeps m (write b) h l = write_leaves (λ r bs. Byte r.system.lf.0) m b l (λ c place. store_keeps c place b m.controller.registers h l) (λ bs same. l)
+call_keeps m read h l = read_leaves (λ r bs. Byte r.system.lf.0) m l l
 
 calls_keep : (m : Machine) (cs : List BusCall) → All OnBus cs → LfByte m → LfByte (after m cs)
 calls_keep m [] h l = l

@@ -1,6 +1,6 @@
 -- Every line of a record is short.
 use Rattle.std.proofs.Common.{◌≡◌, ℕ, not, Option, None, Some, zero, suc, ◌+◌, ◌^◌, ◌<◌, ◌≤◌, List, [], ◌∷◌, ◌++◌, length, get_or, drop, replicate, refl, arith, lit<, get_or-drop, eqb-true}
-use lib.ListN.{length-map, length-replicate}
+use Rattle.std.proofs.lemmas.List.{length-map, length-replicate}
 use Rattle.registers.specs.declared.Command.{Command}
 use Rattle.registers.specs.declared.Registers.{Registers}
 use Rattle.registers.specs.Commands.{command_of}

@@ -1,5 +1,5 @@
 use Rattle.std.proofs.Common.{replicate, sym, ap, ◌∙◌, lit≤}
-use lib.ListN.{length-replicate}
+use Rattle.std.proofs.lemmas.List.{length-replicate}
 use Rattle.registers.specs.Sizes.{memory_size}
 use Rattle.session.specs.File.{Progress, start_of}
 use Rattle.panel.proofs.main.Goals as goal

@@ -1,5 +1,5 @@
 use Rattle.std.proofs.Common.{ℕ, ◌+◌, length, take, drop, ap, ◌∙◌, arith}
-use native.Mathlib.Nat.{add-sub_cancel_left}
+use Rattle.std.proofs.Math.Nat.{add-sub_cancel_left}
 use Rattle.dots.proofs.InPlace.{none_replaced, one_more, all_replaced}
 use Rattle.row.specs.Glyphs.{fetch}
 use Rattle.row.proofs.Addresses.{fetch_mod, bytes_copied}

@@ -1,7 +1,5 @@
-use Rattle.std.proofs.Common.{◌≡◌, ℕ, ◌+◌, ◌-◌, ◌≤◌, ◌⊎◌, Bool, true, false, T, List, [], ◌++◌, ltb, length, take, drop, refl, sym, ap, subst, ◌∙◌, inl, inr, arith, append-nil, length-take-le}
-use Prim.Native.Nat.{zero-le}
-use lib.Seq.{take-add, take_at}
-use borrow.Author.Tests.{leb-true, ltb-false}
+use Rattle.std.proofs.Common.{◌≡◌, ℕ, ◌+◌, ◌-◌, ◌≤◌, ◌⊎◌, Bool, true, false, T, List, [], ◌++◌, ltb, length, take, drop, refl, sym, ap, subst, ◌∙◌, inl, inr, arith, append-nil, zero-le, length-take-le, take-add, take_at}
+use Rattle.std.proofs.lemmas.Bool.{leb-true, ltb-false}
 use Rattle.busfile.specs.Records.{part_of, compacted}
 use Rattle.busfile.specs.Parts.{longest_record}
 use Rattle.session.specs.Reading.{ReadsOn}

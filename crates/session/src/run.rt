@@ -35,8 +35,8 @@ impl<P: Print> Session<'_, '_, P> {
     fn run_bus(&mut self, payload: &[u8], record: u64)
         ensures { CarriesOutCalls «record» 1 (bus_calls payload.now) (live self.old) (live self.new) }
     {
-        if let Some(command) = payload.first() {
-            self.run_command(*command, record);
+        if let Some(&command) = payload.first() {
+            self.run_command(command, record);
             self.run_data(payload, record);
         }
     }
@@ -44,6 +44,7 @@ impl<P: Print> Session<'_, '_, P> {
     fn run_read(&mut self, record: u64, index: u64)
         ensures { CarriesOutCalls «record» index (read ∷ []) (live self.old) (live self.new) }
     {
+        // Lent as `&mut`: what stands behind a field that was lent as `&` the check does not know afterwards.
         let memory = &mut *self.memory;
         let (controller, answer) = self.controller.data_read(memory);
         self.controller = controller;

@@ -36,11 +36,8 @@ fn cursor_reads(command: Command) -> u8
 fn address_byte(address: u16, place: u8) -> u8
     ensures { result ≡ address_byte address place }
 {
-    if place == 0 {
-        (address % 256) as u8
-    } else {
-        (address / 256) as u8
-    }
+    let [low, high] = address.to_le_bytes();
+    if place == 0 { low } else { high }
 }
 
 impl Controller {

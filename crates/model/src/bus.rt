@@ -36,11 +36,8 @@ fn cursor_reads(command: Command) -> u8
 fn address_byte(address: u16, place: u8) -> u8
     ensures { result ≡ address_byte address place }
 {
-    if place == 0 {
-        (address % 256) as u8
-    } else {
-        (address / 256) as u8
-    }
+    let [low, high] = address.to_le_bytes();
+    if place == 0 { low } else { high }
 }
 
 impl Controller {
@@ -77,8 +74,10 @@ impl Controller {
         self.served() == Some(command)
     }
 
+    // The calls in place, for a caller that holds the controller in a struct: to copy it out and back costs more than a call.
+
     #[tactic(auto, unfolding(crate::specs::Bus::command_write, crate::specs::Bus::take_command))]
-    fn take_command(&mut self, b: u8) -> Result<(), Refusal>
+    pub fn take_command(&mut self, b: u8) -> Result<(), Refusal>
         ensures { (memory : List ℕ) → written_outcome self.new result memory ≡ command_write (machine self.old memory) b }
     {
         // A refused byte ends the pending command too.
@@ -112,7 +111,7 @@ impl Controller {
     }
 
     #[tactic(auto, unfolding(crate::specs::Bus::data_write, crate::specs::Bus::write_data))]
-    fn take_data(&mut self, memory: &mut [u8], b: u8) -> Result<(), Refusal>
+    pub fn take_data(&mut self, memory: &mut [u8], b: u8) -> Result<(), Refusal>
         ensures { written_outcome self.new result memory.new ≡ data_write (machine self.old memory.old) b }
     {
         if memory.len() != MEMORY_SIZE {
@@ -128,7 +127,7 @@ impl Controller {
     }
 
     #[tactic(auto, unfolding(crate::specs::Bus::data_read, crate::specs::Bus::read_data, crate::specs::Bus::read_cursor))]
-    fn give_data(&mut self, memory: &[u8]) -> Result<u8, Refusal>
+    pub fn give_data(&mut self, memory: &[u8]) -> Result<u8, Refusal>
         ensures { read_outcome self.new result memory.now ≡ data_read (machine self.old memory.now) }
     {
         if memory.len() != MEMORY_SIZE {
@@ -146,7 +145,7 @@ impl Controller {
     }
 
     #[tactic(auto, using(crate::proofs::WriteRuns::no_run), unfolding(crate::specs::WriteRun::stores))]
-    fn take_run(&mut self, memory: &mut [u8], bytes: &[u8]) -> usize
+    pub fn take_run(&mut self, memory: &mut [u8], bytes: &[u8]) -> usize
         ensures { write_run_outcome self.new result memory.new ≡ run_outcome (machine self.old memory.old) bytes.now }
     {
         let Some(memory) = memory.as_mut_array::<MEMORY_SIZE>() else {

@@ -16,7 +16,7 @@ fn main(rt: HostRuntime) {
     let mut buffer = [0u8; 131072];
     let mut out = [0u8; 65536];
     let size = reading::read_font(&rt, &mut font);
-    let mut step = Step::start(&rt, &mut memory, busfile::part(&font, 0, size), &mut out);
+    let mut step = Step::start(&rt, &mut memory, &font[..size], &mut out);
     let mut input = Input::new(rt.stdin(), &mut buffer);
     file::run_file(&mut step, &mut input);
 }

@@ -15,16 +15,12 @@ pub struct Input<'b, R> {
     ended: bool,
 }
 
-// Reads until the buffer is full, the input ends or a read fails, and answers how many bytes came. The count of turns, which
-// no input uses up, is there so that the loop is seen to end.
+// Reads until the buffer is full, the input ends or a read fails, and answers how many bytes came.
 fn read_full(reader: &mut impl Read, buffer: &mut [u8]) -> usize
     ensures { result ≤ length buffer.new }
 {
     let mut done = 0;
-    for _ in 0..u64::MAX {
-        if done == buffer.len() {
-            break;
-        }
+    while done < buffer.len() {
         match reader.read(&mut buffer[done..]) {
             Ok(0) | Err(_) => break,
             Ok(n) => done += n,

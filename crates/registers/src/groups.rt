@@ -9,7 +9,8 @@ use crate::{Blocks, CursorForm, Display, Overlay, System};
 fn set_low(x: &mut u16, b: u8)
     ensures { x.new ≡ with_low x.old b }
 {
-    *x = *x / 256 * 256 + u16::from(b);
+    let [_, high] = x.to_le_bytes();
+    *x = u16::from_le_bytes([b, high]);
 }
 
 // The two-byte register x with b as its high byte.
@@ -17,7 +18,8 @@ fn set_low(x: &mut u16, b: u8)
 fn set_high(x: &mut u16, b: u8)
     ensures { x.new ≡ with_high x.old b }
 {
-    *x = u16::from(b) * 256 + *x % 256;
+    let [low, _] = x.to_le_bytes();
+    *x = u16::from_le_bytes([low, b]);
 }
 
 // The two-byte register x after a parameter of a command that has no other.

@@ -119,7 +119,8 @@ pub struct Cursor {
     pub direction: Direction,
 }
 
-// All that the controller stores but the pending command.
+// All that the controller stores but the pending command. Fields of some bits (MX, grey, FP, FC) are numbers here: a saved controller may hold
+// any byte there, and reading and saving it are proved to undo each other for all of them (`SavedForm`).
 #[derive(Clone, Copy, Default)]
 pub struct Registers {
     pub system: System,

@@ -12,7 +12,8 @@ fn is_on(period: u32, frame: u32) -> bool
     10 * (frame % period) < 7 * period
 }
 
-// Whether what has a code of FP or FC, as the registers hold it, shows; code 3 is of the period given.
+// Whether what has a code of FP or FC shows; code 3 is of the period given. The code is a number, as registers hold it: this match is all that an
+// enum of the codes would be for.
 #[tactic(auto, unfolding(crate::specs::Flashing::flashing))]
 pub fn flashes(code: u8, period: u32, frame: u32) -> bool
     requires { (0 < period) × (period ≤ 64) }

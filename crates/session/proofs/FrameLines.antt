@@ -9,8 +9,8 @@ use Rattle.registers.proofs.Numbers.{number_not_0}
 use Rattle.row.specs.Rows.{RowAnswer, RowOutcome, frame_size, row_answer, row_outcome, composed_outcome}
 use Rattle.row.proofs.Accepting.{other_row, wide_refused}
 use Rattle.model.specs.Machine.{Machine}
-use Rattle.lines.specs.Lines.{frame_line, row_line}
-use Rattle.session.specs.Records.{write_reply_lines, row_of, row_lines, framed, frame_lines}
+use Rattle.lines.specs.Lines.{refused_line, frame_line, row_line}
+use Rattle.session.specs.Records.{row_of, row_lines, framed, frame_lines}
 use Rattle.session.specs.Output.{Prints}
 use Rattle.session.specs.Carrying.{Live, live, CarriesOut}
 use Rattle.session.specs.declared.Output.{Output}
@@ -34,8 +34,8 @@ row_printed row n s d e = rw (← d) (printed_lines s e)
 
 -- a frame whose first row is refused
 pub refused_lines : (r frame size rows : ℕ) (row : ℕ → RowAnswer) (a : Result Unit Refusal) {refusal : Refusal} → a ≡ Err refusal → (reply a).refusal ≡ (row 0).refusal
-    → write_reply_lines r 0 (reply a) ≡ framed r frame size rows row
-refused_lines r frame size rows row a {refusal} told first = rw (← first, told, ne_eqb (number refusal) 0 (number_not_0 refusal))
+    → refused_line r 0 (number refusal) ∷ [] ≡ framed r frame size rows row
+refused_lines r frame size rows row a {refusal} told first = rw (← first, told, ne_eqb (number refusal) 0 (number_not_0 refusal)) refl
 
 module _ (m : Machine) (font : List ℕ) (frame : ℕ) where
   pub answered : (n : ℕ) (out : List ℕ) (a : Result Unit Refusal) {left : List ℕ} → composed_outcome a left ≡ row_outcome m.controller.registers m.memory font frame n out

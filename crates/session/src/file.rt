@@ -86,6 +86,8 @@ impl<'r, 'w, P: Print> Step<'r, 'w, P> {
         ensures used_value { self.new.session.output.lines.used ≡ 0 }
         ensures open_after { OpenAfter self.old.session.output.open true self.new.session.output.open }
         ensures memory_unchanged { self.new.session.memory.now ≡ self.old.session.memory.now }
+        ensures progress_unchanged { (self.new.session.controller ≡ self.old.session.controller) × (self.new.at ≡ self.old.at)
+            × (self.new.good ≡ self.old.good) × (self.new.more ≡ self.old.more) }
         ensures lent { lent self.new.session ≡ lent self.old.session }
     {
         self.session.output.print_line(Line::End(self.good));

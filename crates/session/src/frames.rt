@@ -9,6 +9,7 @@ use lines::Line;
 use registers::Refusal;
 
 impl<P: Print> Session<'_, '_, P> {
+    // A row of a frame, into a buffer.
     fn row(&self, frame: u32, n: u32, out: &mut [u8]) -> Result<(), Refusal>
         ensures { composed_outcome result out.new ≡ row_outcome self.now.controller.registers
             self.now.memory.now self.now.font.now frame n out.old }
@@ -40,9 +41,8 @@ impl<P: Print> Session<'_, '_, P> {
             (row_of (state self.old).machine self.old.font.now frame.number (length row.old)))
             (live self.old) (live self.new) }
     {
-        let answer = self.row(frame.number, 0, row);
-        match answer {
-            Err(_) => self.output.print_answer(answer, frame.record, 0),
+        match self.row(frame.number, 0, row) {
+            Err(refusal) => self.output.print_refused(refusal, frame.record, 0),
             Ok(()) => {
                 let head = Line::Frame(frame.record, frame.number, row.len(), frame.rows.0);
                 self.output.print_line(head);

@@ -27,7 +27,8 @@ pub struct Session<'r, 'w, P> {
     pub output: Output<'r, 'w, P>,
 }
 
-// How far a file is: where the next record stands, how many were good, and whether the file goes on.
+// How far a file is: where the next record stands, how many were good, and whether the file goes on. That is a flag beside the place, since
+// Progress, next_step and Ran speak of it after the last record too.
 #[derive(Drop)]
 pub struct Step<'r, 'w, P> {
     pub session: Session<'r, 'w, P>,

@@ -1,7 +1,7 @@
 // Buffered lines on standard output. Once a write fails nothing more is written.
 ghost use Rattle.std.specs.Prelude.{◌≡◌, true, [], ◌∷◌};
-ghost use Rattle.registers.specs.Refusals.{reply, read_reply};
-ghost use Rattle.lines.specs.Lines.{line_text, row_line};
+ghost use Rattle.registers.specs.Refusals.{number, reply, read_reply};
+ghost use Rattle.lines.specs.Lines.{line_text, refused_line, row_line};
 ghost use Rattle.session.specs.Output.{buffer_of, is_full, used_before, OpenAfter, Prints};
 ghost use Rattle.session.specs.Records.{write_reply_lines, read_reply_lines};
 
@@ -69,12 +69,18 @@ impl<'r, 'w, P: Print> Output<'r, 'w, P> {
         self.lines.append_row(row);
     }
 
+    pub(crate) fn print_refused(&mut self, refusal: Refusal, record: u64, byte: u64)
+        ensures { Prints (refused_line «record» byte (number refusal) ∷ []) self.old self.new }
+    {
+        self.print_line(Line::Refused(record, byte, refusal.into()));
+    }
+
     // What a write is answered: nothing is printed where it is accepted.
     pub(crate) fn print_answer(&mut self, answer: Result<(), Refusal>, record: u64, byte: u64)
         ensures { Prints (write_reply_lines «record» byte (reply answer)) self.old self.new }
     {
         if let Err(refusal) = answer {
-            self.print_line(Line::Refused(record, byte, refusal.into()));
+            self.print_refused(refusal, record, byte);
         }
     }
 
@@ -84,7 +90,7 @@ impl<'r, 'w, P: Print> Output<'r, 'w, P> {
     {
         match answer {
             Ok(value) => self.print_line(Line::Read(record, index, value)),
-            Err(refusal) => self.print_line(Line::Refused(record, index, refusal.into())),
+            Err(refusal) => self.print_refused(refusal, record, index),
         }
     }
 }

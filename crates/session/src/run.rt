@@ -11,8 +11,7 @@ impl<P: Print> Session<'_, '_, P> {
     fn run_command(&mut self, b: u8, record: u64)
         ensures { CarriesOutCalls «record» 1 (command b ∷ []) (live self.old) (live self.new) }
     {
-        let (controller, answer) = self.controller.command_write(b);
-        self.controller = controller;
+        let answer = self.controller.take_command(b);
         self.output.print_answer(answer, record, 1);
     }
 
@@ -22,11 +21,9 @@ impl<P: Print> Session<'_, '_, P> {
         ensures { CarriesOutCalls «record» 2 (map write (drop 1 payload.now))
             (live self.old) (live self.new) }
     {
-        let (controller, length) = self.controller.write_run(self.memory, &payload[1..]);
-        self.controller = controller;
+        let length = self.controller.take_run(self.memory, &payload[1..]);
         for i in 1 + length..payload.len() {
-            let (controller, answer) = self.controller.data_write(self.memory, payload[i]);
-            self.controller = controller;
+            let answer = self.controller.take_data(self.memory, payload[i]);
             self.output.print_answer(answer, record, i as u64 + 1);
         }
     }
@@ -35,8 +32,8 @@ impl<P: Print> Session<'_, '_, P> {
     fn run_bus(&mut self, payload: &[u8], record: u64)
         ensures { CarriesOutCalls «record» 1 (bus_calls payload.now) (live self.old) (live self.new) }
     {
-        if let Some(command) = payload.first() {
-            self.run_command(*command, record);
+        if let Some(&command) = payload.first() {
+            self.run_command(command, record);
             self.run_data(payload, record);
         }
     }
@@ -44,9 +41,9 @@ impl<P: Print> Session<'_, '_, P> {
     fn run_read(&mut self, record: u64, index: u64)
         ensures { CarriesOutCalls «record» index (read ∷ []) (live self.old) (live self.new) }
     {
+        // Lent as `&mut`: what stands behind a field that was lent as `&` the check does not know afterwards.
         let memory = &mut *self.memory;
-        let (controller, answer) = self.controller.data_read(memory);
-        self.controller = controller;
+        let answer = self.controller.give_data(memory);
         self.output.print_read(answer, record, index);
     }
 

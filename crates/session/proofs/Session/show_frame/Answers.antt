@@ -17,8 +17,8 @@ pub show_rows-requires-clause-row_value : goal.show_rows-requires-clause-row_val
 show_rows-requires-clause-row_value g c =
     let a = c.args in
     let s = a.self.now in
-    ap (λ (n : ℕ). (row_of (state s).machine s.font.now a.frame.number n 0).refusal) c.row-answer.auto.out
-    ∙ first_row (state s).machine s.font.now a.frame.number a.row.now c.row-answer.result c.in-Ok.is c.row-answer.ensures
+    ap (λ (n : ℕ). (row_of (state s).machine s.font.now a.frame.number n 0).refusal) c.row.auto.out
+    ∙ first_row (state s).machine s.font.now a.frame.number a.row.now c.row.result c.in-Ok.is c.row.ensures
 
 pub returns-in-Err : goal.returns-in-Err
 returns-in-Err g c =
@@ -26,15 +26,15 @@ returns-in-Err g c =
     let s = a.self.now in
     let m = (state s).machine in
     rw (← refused_lines a.frame.«record» a.frame.number (length a.row.now) a.frame.rows.0
-    (row_of m s.font.now a.frame.number (length a.row.now)) c.row-answer.result c.in-Err.is
-    (answered m s.font.now a.frame.number 0 a.row.now c.row-answer.result c.row-answer.ensures))
-    (printed_lines {P = g.row.P.Denot} s c.print_answer.ensures)
+    (row_of m s.font.now a.frame.number (length a.row.now)) c.row.result c.in-Err.is
+    (answered m s.font.now a.frame.number 0 a.row.now c.row.result c.row.ensures))
+    (printed_lines {P = g.row.P.Denot} s c.print_refused.ensures)
 
 pub returns-in-Ok : goal.returns-in-Ok
 returns-in-Ok g c =
     let a = c.args in
     let s = a.self.now in
     let m = (state s).machine in
-    accepted_frame m s.font.now a.frame.number a.frame.«record» a.frame.rows.0 (length a.row.now) c.row-answer.auto.out
-    (first_row m s.font.now a.frame.number a.row.now c.row-answer.result c.in-Ok.is c.row-answer.ensures)
+    accepted_frame m s.font.now a.frame.number a.frame.«record» a.frame.rows.0 (length a.row.now) c.row.auto.out
+    (first_row m s.font.now a.frame.number a.row.now c.row.result c.in-Ok.is c.row.ensures)
     (printed_lines {P = g.row.P.Denot} s c.print_line.ensures) c.show_rows.ensures

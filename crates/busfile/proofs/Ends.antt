@@ -1,13 +1,7 @@
 -- Where a record that was found stands.
-use Prim.Native.Nat.{ℕ, ◌+◌, ◌-◌, ◌≤◌}
-use mathlib.Core.List.{List}
-use mathlib.Core.Path.{◌≡◌, sym, ◌∙◌}
-use native.Mathlib.Omega.{arith}
-use lib.ListN.{length, drop}
-use Rattle.std.proofs.lemmas.List.{drop-drop}
+use Rattle.std.proofs.Common.{◌≡◌, ℕ, ◌+◌, ◌-◌, ◌≤◌, Option, Some, None, List, length, drop, sym, ◌∙◌, arith, drop-drop}
 use Rattle.std.proofs.lemmas.Grind.{common_steps}
 use Rattle.busfile.specs.declared.Record as R
-use Rattle.std.specs.Prelude.{Option, Some, None}
 use Rattle.busfile.specs.declared.Kind.{Kind}
 use Rattle.busfile.specs.declared.Found.TheVariants.{Record}
 use Rattle.busfile.specs.Records.{word_of, shape_of, body_of, record_at}

@@ -1,14 +1,9 @@
 -- Reading in parts. Bytes before a part move its places (`shifted`); bytes after it change nothing for a record that ends within it (`long`).
-use Prim.Native.Nat.{ℕ, ◌+◌, ◌≤◌}
-use mathlib.Core.List.{List, [], ◌++◌, append-nil}
-use mathlib.Core.Logic.{⊎_elim}
-use mathlib.Core.Path.{◌≡◌, refl, sym, ap, ◌∙◌}
-use native.Mathlib.Omega.{arith}
-use lib.ListN.{length, drop, length-append}
-use lib.Seq.{drop-append-add, drop-append-le}
+use Rattle.std.proofs.Common.{◌≡◌, ℕ, ◌+◌, ◌≤◌, Option, Some, None, List, [], ◌++◌, length, drop, ⊎_elim, refl, sym, ap, ◌∙◌, arith, append-nil, length-append}
+use Rattle.std.proofs.lemmas.List.{drop-append-le}
+use Rattle.std.proofs.Math.Seq.{drop-append-add}
 use Rattle.std.proofs.lemmas.Grind.{common_steps}
 use Rattle.busfile.specs.declared.Record as R
-use Rattle.std.specs.Prelude.{Option, Some, None}
 use Rattle.busfile.specs.declared.Kind.{Kind}
 use Rattle.busfile.specs.declared.Found.TheVariants.{Record}
 use Rattle.busfile.specs.Records.{word_of, shape_of, body_of, record_at, part_of}

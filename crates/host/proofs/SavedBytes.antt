@@ -1,6 +1,5 @@
 -- Saved controllers: laws on their bytes, and that reading and saving undo each other.
 use Rattle.std.proofs.Common.{◌≡◌, ℕ, ◌+◌, ◌*◌, ◌<◌, Bool, true, false, Option, None, Some, List, length, sym, refl, ◌∙◌, arith, eqb-true}
-use mir.Val.{bool_byte}
 use Rattle.choice.specs.Choice.{◌=?◌}
 use Rattle.std.proofs.lemmas.Bool.{and_parts}
 use Rattle.choice.proofs.Cases.{below2, below4}
@@ -16,11 +15,6 @@ use Rattle.model.specs.declared.Controller.{Controller}
 use Rattle.model.specs.Refresh.{All, Byte}
 use Rattle.model.proofs.Runs.{byte_at_lem}
 use Rattle.host.specs.Saved.{byte_at, is_saved, flag, pending_code, low, high, direction_number, direction_numbered, saved_bytes, controller_of, InLayout, SavedForm}
-
--- a flag cast to a byte
-pub flag_byte : (b : Bool) → bool_byte b ≡ flag b
-flag_byte true = refl
-flag_byte false = refl
 
 pub saved_length : (s : List ℕ) → is_saved s ≡ true → length s ≡ 48
 unfolding is_saved

@@ -1,5 +1,5 @@
 -- Records that are sent byte by byte.
-use Rattle.std.proofs.Common.{◌≡◌, ℕ, zero, suc, ◌+◌, ◌<◌, ◌≤◌, Bool, true, false, Result, Ok, Err, is_err, List, [], ◌∷◌, ◌++◌, map, length, get_or, take, drop, set, replicate, sym, refl, ap, ◌∙◌, zero-le, lt_of_le_of_lt, zero-add, add-one, arith, length-drop, length-take-le, get_or-drop, get_or-take, take-suc, take-suc-set, ext_get_or, take-add, ltb-true, eqb-true}
+use Rattle.std.proofs.Common.{◌≡◌, ℕ, zero, suc, ◌+◌, ◌<◌, ◌≤◌, Bool, true, false, Option, None, Some, Result, Ok, Err, is_err, List, [], ◌∷◌, ◌++◌, map, length, get_or, take, drop, set, replicate, sym, refl, ap, ◌∙◌, zero-le, lt_of_le_of_lt, zero-add, add-one, arith, length-drop, length-take-le, get_or-drop, get_or-take, take-suc, take-suc-set, ext_get_or, take-add, ltb-true, eqb-true}
 use Rattle.std.specs.Int.{from_bool}
 use Rattle.std.proofs.Math.Bool.{and-false}
 use Rattle.std.proofs.lemmas.List.{map-append, length-map, length-replicate, get_or-replicate}
@@ -17,8 +17,9 @@ use Rattle.model.specs.Refresh.{All}
 use Rattle.model.specs.WriteRun.{run_length, RunOutcome, run_outcome}
 use Rattle.model.proofs.WriteRuns.{run_within, run_accepted}
 use Rattle.host.specs.Sending.{numbers, refusal_count, refusals, send_outcome, sent_outcome, nothing_sent, fits, is_sendable, send_returned, send_saved, after_send}
-use Rattle.host.specs.Saved.{is_saved, controller_of, saved_bytes}
+use Rattle.host.specs.Saved.{is_saved, saved_controller, saved_bytes}
 use Rattle.host.specs.Calls.{returned}
+use Rattle.host.proofs.Outcomes.{is_read, not_read}
 
 -- Lists of calls, one behind the other
 
@@ -146,23 +147,24 @@ fitting bytes answers e =
     (ltb-true _ _ v.1, ltb-true _ _ u.1, eqb-true _ _ v.0)
 
 -- on the controller that was read, answered and saved
-pub record_saved : (s memory bytes answers : List ℕ) {k k' : Controller} {s' memory' answers' : List ℕ} {n : ℕ}
-    → fits bytes answers ≡ true → is_saved s ≡ true → k ≡ controller_of s → sent_outcome k' n memory' answers' ≡ send_outcome (machine k memory) bytes
+pub record_saved : (s memory bytes answers : List ℕ) {t : Bool} {o : Option Controller} {k k' : Controller} {s' memory' answers' : List ℕ} {n : ℕ}
+    → t ≡ fits bytes answers → t ≡ true → o ≡ saved_controller s → o ≡ Some k → sent_outcome k' n memory' answers' ≡ send_outcome (machine k memory) bytes
     → s' ≡ saved_bytes k' → send_returned (returned n s' memory') answers' ≡ after_send s memory bytes answers
 unfolding is_sendable
-record_saved s memory bytes answers f is e o w = rw (w, f, is) (ap send_saved o ∙ rw e)
+record_saved s memory bytes answers fit f read e o w = let r = is_read s read e in rw (w, sym fit ∙ f, r.0) (ap send_saved o ∙ rw r.1)
 
+-- or sent to no call
 module _ (s memory bytes answers : List ℕ) where
   abbrev Unsent : Type 0
   Unsent = send_returned (returned nothing_sent s memory) answers ≡ after_send s memory bytes answers
 
-  pub unfit_unsent : fits bytes answers ≡ false → Unsent
+  pub unfit_unsent : {t : Bool} → t ≡ fits bytes answers → t ≡ false → Unsent
   unfolding is_sendable
-  unfit_unsent e = rw e
+  unfit_unsent fit e = rw (sym fit ∙ e)
 
-  pub unread_unsent : is_saved s ≡ false → Unsent
+  pub unread_unsent : {o : Option Controller} → o ≡ saved_controller s → o ≡ None → Unsent
   unfolding is_sendable
-  unread_unsent e = rw (e, and-false (fits bytes answers))
+  unread_unsent read e = rw (not_read s read e, and-false (fits bytes answers))
 
 -- the answer of a record that is sent is a count below the one that says that nothing is
 pub never_a_count : (s bytes answers : List ℕ) (m : Machine) → is_sendable s bytes answers ≡ true → (send_outcome m bytes).refused < nothing_sent

@@ -128,6 +128,7 @@ fn direction_number(direction: Direction) -> u8
     direction as u8
 }
 
+#[tactic(auto, unfolding(crate::specs::Saved::saved_bytes))]
 fn saved(c: &Controller) -> [u8; 48]
     ensures { result ≡ saved_bytes c.now }
 {

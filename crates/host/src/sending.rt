@@ -38,6 +38,7 @@ fn fits(bytes: &[u8], answers: &[u8]) -> bool
 }
 
 #[unsafe(no_mangle)]
+#[tactic(auto, using(crate::proofs::Outcomes::read_length, crate::proofs::SentBytes::unfit_unsent, crate::proofs::SentBytes::unread_unsent))]
 pub extern "C" fn granivolche_send(
     controller: &mut [u8],
     memory: &mut [u8],

@@ -1,10 +1,13 @@
 -- Runs: a list of calls that leads from one machine to another, every answer having a property. The memory keeps its size.
-use Rattle.std.proofs.Common.{◌≡◌, ℕ, zero, suc, not, Option, None, Some, List, [], ◌∷◌, ◌++◌, length, get_or, replicate, sym, refl, ◌∙◌, subst, arith, length-set}
+use Rattle.std.proofs.Common.{◌≡◌, ℕ, zero, suc, false, not, Option, None, Some, List, [], ◌∷◌, ◌++◌, length, get_or, replicate, sym, refl, ◌∙◌, subst, arith, length-set}
 use Rattle.choice.proofs.Cases.{choose}
 use Rattle.registers.specs.declared.Command.{Command}
+use Rattle.registers.specs.declared.Registers.{Registers}
 use Rattle.registers.specs.Commands.{command_of}
-use Rattle.model.specs.Machine.{Machine, Outcome, refuse}
-use Rattle.model.specs.Bus.{sized, served, take_command, command_write, write_memory, write_parameter, write_data, data_write, read_memory, read_cursor, read_data, data_read}
+use Rattle.registers.specs.Parameters.{begin, store}
+use Rattle.registers.specs.Cursor.{move_cursor}
+use Rattle.model.specs.Machine.{Machine, Outcome}
+use Rattle.model.specs.Bus.{ignored, display_off, sized, served, take_command, command_write, write_memory, write_parameter, write_data, data_write, read_memory, read_cursor, read_data, data_read}
 use Rattle.model.specs.Calls.{BusCall, command, write, read, call, after, outcomes}
 use Rattle.model.specs.Refresh.{All, Byte}
 
@@ -47,36 +50,42 @@ byte_at_lem [] h i = omega arith
 byte_at_lem (b ∷ bs) h zero = h.0
 byte_at_lem (b ∷ bs) h (suc i) = byte_at_lem bs h.1 i
 
--- what a data write and a data read come to: refused, or what is served
-pub sized_write : (P : Outcome → Type 0) (m : Machine) (b : ℕ) → P (refuse 1 m.controller m.memory) → ((o : Option Command) → P (write_data o m b)) → P (data_write m b)
-unfolding data_write
-sized_write P m b r f = choose P (not (sized m)) _ _ (λ e. r) (λ e. f (served m.controller))
+-- What a call leaves in registers and memory has a property, if each step that it may come to has it
 
-pub sized_read : (P : Outcome → Type 0) (m : Machine) → P (refuse 1 m.controller m.memory) → ((o : Option Command) → P (read_data o m)) → P (data_read m)
-unfolding data_read
-sized_read P m r f = choose P (not (sized m)) _ _ (λ e. r) (λ e. f (served m.controller))
+abbrev Left : (Registers → List ℕ → Type 0) → Outcome → Type 0
+Left P o = P o.machine.controller.registers o.machine.memory
 
-abbrev SameSize : Machine → Outcome → Type 0
-SameSize m o = length o.machine.memory ≡ length m.memory
+pub command_leaves : (P : Registers → List ℕ → Type 0) (m : Machine) (b : ℕ) → let r = m.controller.registers in P r m.memory
+    → ((c : Command) → ignored c r.asleep ≡ false → display_off c r.display.on ≡ false → P (begin c b r) m.memory) → Left P (command_write m b)
+unfolding command_write take_command
+command_leaves P m b stays begun = go (command_of b)
+  where
+    go : (o : Option Command) → Left P (take_command o m b)
+    go None = stays
+    go (Some c) = search (choose (Left P), stays, begun) depth 12
+
+pub write_leaves : (P : Registers → List ℕ → Type 0) (m : Machine) (b : ℕ) → let r = m.controller.registers in P r m.memory
+    → ((c : Command) (place : ℕ) → P (store c place b r) m.memory) → ((bs : List ℕ) → length bs ≡ length m.memory → P (move_cursor r) bs) → Left P (data_write m b)
+unfolding data_write write_data write_memory write_parameter
+write_leaves P m b stays stored moved = choose (Left P) (not (sized m)) _ _ (λ e. stays) (λ e. go (served m.controller))
+  where
+    go : (o : Option Command) → Left P (write_data o m b)
+    go None = stays
+    go (Some c) = search (choose (Left P), stays, stored, moved, length-set) depth 12
+
+pub read_leaves : (P : Registers → List ℕ → Type 0) (m : Machine) → let r = m.controller.registers in P r m.memory → P (move_cursor r) m.memory → Left P (data_read m)
+unfolding data_read read_data read_memory read_cursor
+read_leaves P m stays moved = choose (Left P) (not (sized m)) _ _ (λ e. stays) (λ e. go (served m.controller))
+  where
+    go : (o : Option Command) → Left P (read_data o m)
+    go None = stays
+    go (Some c) = search (choose (Left P), stays, moved) depth 12
 
 -- no call changes the size of the memory
 call_size : (m : Machine) (c : BusCall) → length (call m c).machine.memory ≡ length m.memory
-unfolding command_write take_command write_data write_memory write_parameter read_data read_memory read_cursor
-call_size m (command b) = go (command_of b)
-  where
-    go : (o : Option Command) → SameSize m (take_command o m b)
-    go None = refl
-    go (Some c) = search (choose (SameSize m)) depth 12
-call_size m (write b) = sized_write (SameSize m) m b refl go
-  where
-    go : (o : Option Command) → SameSize m (write_data o m b)
-    go None = refl
-    go (Some c) = search (choose (SameSize m), length-set) depth 12
-call_size m read = sized_read (SameSize m) m refl go
-  where
-    go : (o : Option Command) → SameSize m (read_data o m)
-    go None = refl
-    go (Some c) = search (choose (SameSize m)) depth 12
+call_size m (command b) = command_leaves (λ r bs. length bs ≡ length m.memory) m b refl (λ c awake on. refl)
+call_size m (write b) = write_leaves (λ r bs. length bs ≡ length m.memory) m b refl (λ c place. refl) (λ bs same. same)
+call_size m read = read_leaves (λ r bs. length bs ≡ length m.memory) m refl refl
 
 pub after_size : (m : Machine) (cs : List BusCall) → length (after m cs).memory ≡ length m.memory
 after_size m [] = refl

@@ -1,5 +1,5 @@
 -- Request #102: a display that is off or asleep stays dark until DISP ON; from reset, it is on while the chip is asleep.
-use Rattle.std.proofs.Common.{◌≡◌, ℕ, Bool, true, false, not, ◌&&◌, ◌≢◌, Option, None, Some, List, [], ◌∷◌, length, sym, refl, ap, ◌∙◌, subst, eqb-true}
+use Rattle.std.proofs.Common.{◌≡◌, ℕ, Bool, true, false, not, ◌&&◌, ◌≢◌, List, [], ◌∷◌, length, sym, refl, ap, ◌∙◌, subst, eqb-true}
 use Rattle.std.proofs.Math.Bool.{and-false}
 use Rattle.registers.specs.declared.Command.{Command}
 use Rattle.registers.specs.declared.Command.TheVariants.{SleepIn, Disp}
@@ -15,11 +15,11 @@ use Rattle.row.specs.Refusals.{row_refusal}
 use Rattle.row.specs.Rows.{row_answer}
 use Rattle.row.proofs.Dots.{dark_row}
 use Rattle.model.specs.Machine.{Machine, Outcome}
-use Rattle.model.specs.Bus.{ignored, display_off, take_command, command_write, write_memory, write_parameter, write_data, read_memory, read_cursor, read_data}
+use Rattle.model.specs.Bus.{ignored, display_off, take_command, command_write}
 use Rattle.model.specs.Calls.{BusCall, command, write, read, call, after, reset}
 use Rattle.model.specs.Refresh.{All}
 use Rattle.model.specs.Waking.{Dark, NotOn, NoneOn, ShowsNothing, DarkUntilOn, OnWhileAsleep}
-use Rattle.model.proofs.Runs.{all_replicate, sized_write, sized_read}
+use Rattle.model.proofs.Runs.{all_replicate, command_leaves, write_leaves, read_leaves}
 
 -- what a call leaves in the registers
 abbrev Left : (Registers → Type 0) → Outcome → Type 0
@@ -58,26 +58,14 @@ on_dark m n = go m.controller.registers.asleep refl
     go false e = absurd (n (rw e))
 
 call_dark : (m : Machine) (c : BusCall) → NotOn m c → Dark m.controller.registers → Left Dark (call m c)
-unfolding command_write take_command write_data write_memory write_parameter read_data read_memory read_cursor
 call_dark m (command b) n d = go (b =? 0x59) refl
   where
     go : (t : Bool) → (b =? 0x59) ≡ t → Left Dark (call m (command b))
     go true e = let same = eqb-true b 0x59 e in subst (λ (k : ℕ). Left Dark (call m (command k))) (sym same) (on_dark m (subst (λ (k : ℕ). (call m (command k)).reply.refusal ≢ 0) same (n (ap command same))))
-    go false e = other (command_of b)
-      where
-        other : (o : Option Command) → Left Dark (take_command o m b)
-        other None = d
-        other (Some c) = search (choose (Left Dark), begin_dark) depth 12
-call_dark m (write b) n d = sized_write (Left Dark) m b d go
-  where
-    go : (o : Option Command) → Left Dark (write_data o m b)
-    go None = d
-    go (Some c) = search (choose (Left Dark), store_flags (λ on asleep. is_shown on asleep ≡ false) refl) depth 12
-call_dark m read n d = sized_read (Left Dark) m d go
-  where
-    go : (o : Option Command) → Left Dark (read_data o m)
-    go None = d
-    go (Some c) = search (choose (Left Dark)) depth 12
+    go false e = command_leaves (λ r bs. Dark r) m b d (λ c awake on. begin_dark c b m.controller.registers e d)
+call_dark m (write b) n d =
+    write_leaves (λ r bs. Dark r) m b d (λ c place. store_flags (λ on asleep. is_shown on asleep ≡ false) refl c place b m.controller.registers d) (λ bs same. d)
+call_dark m read n d = read_leaves (λ r bs. Dark r) m d d
 
 after_dark : (m : Machine) (cs : List BusCall) → NoneOn m cs → Dark m.controller.registers → Dark (after m cs).controller.registers
 after_dark m [] n d = d
@@ -119,22 +107,10 @@ begin_on c b r = go (c is Disp) (c is SleepIn) refl refl
     go false false e f = λ i w k. rw (e, f) k
 
 call_on : (m : Machine) (c : BusCall) → OnIfAsleep m.controller.registers → Left OnIfAsleep (call m c)
-unfolding command_write take_command write_data write_memory write_parameter read_data read_memory read_cursor
-call_on m (command b) k = go (command_of b)
-  where
-    go : (o : Option Command) → Left OnIfAsleep (take_command o m b)
-    go None = k
-    go (Some c) = search (choose (Left OnIfAsleep), begin_on) depth 12
-call_on m (write b) k = sized_write (Left OnIfAsleep) m b k go
-  where
-    go : (o : Option Command) → Left OnIfAsleep (write_data o m b)
-    go None = k
-    go (Some c) = search (choose (Left OnIfAsleep), store_flags (λ on asleep. (not on && asleep) ≡ false) refl) depth 12
-call_on m read k = sized_read (Left OnIfAsleep) m k go
-  where
-    go : (o : Option Command) → Left OnIfAsleep (read_data o m)
-    go None = k
-    go (Some c) = search (choose (Left OnIfAsleep)) depth 12
+call_on m (command b) k = command_leaves (λ r bs. OnIfAsleep r) m b k (λ c awake on. begin_on c b m.controller.registers awake on k)
+call_on m (write b) k =
+    write_leaves (λ r bs. OnIfAsleep r) m b k (λ c place. store_flags (λ on asleep. (not on && asleep) ≡ false) refl c place b m.controller.registers k) (λ bs same. k)
+call_on m read k = read_leaves (λ r bs. OnIfAsleep r) m k k
 
 after_on : (m : Machine) (cs : List BusCall) → OnIfAsleep m.controller.registers → OnIfAsleep (after m cs).controller.registers
 after_on m [] k = k

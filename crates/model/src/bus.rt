@@ -142,7 +142,7 @@ impl Controller {
         }
     }
 
-    #[tactic(auto, unfolding(crate::specs::WriteRun::stores))]
+    #[tactic(auto, using(crate::proofs::WriteRuns::no_run), unfolding(crate::specs::WriteRun::stores))]
     fn take_run(&mut self, memory: &mut [u8], bytes: &[u8]) -> usize
         ensures { write_run_outcome self.new result memory.new ≡ run_outcome (machine self.old memory.old) bytes.now }
     {

@@ -35,6 +35,7 @@ fn stride(direction: Direction, ap: u16) -> u16
 }
 
 // Bytes stored at addresses one after the other: one copy, up to memory's end.
+#[tactic(auto, using(crate::proofs::Strides::none_stored))]
 fn store_adjacent(memory: &mut [u8; MEMORY_SIZE], bytes: &[u8], address: u16) -> Stored
     ensures { stored_outcome result memory.new ≡ stored_from 1 0 address memory.old bytes.now }
 {
@@ -120,6 +121,7 @@ impl Controller {
     }
 
     // Bytes stored from the cursor on while it is inside memory; how many they are.
+    #[tactic(auto, using(crate::proofs::WriteRuns::run_strided))]
     pub(crate) fn write_memory_run(&mut self, memory: &mut [u8; MEMORY_SIZE], bytes: &[u8]) -> usize
         requires serves_mwrite { served self.old serves Mwrite ≡ true }
         ensures { write_run_outcome self.new result memory.new ≡ run_outcome (machine self.old memory.old) bytes.now }

@@ -1,6 +1,6 @@
 -- 01, 'Refusal numbers': no two answers have the same reply; so no two refusals have one number, and none has 0 or 255.
-use Rattle.std.proofs.Common.{◌≡◌, ℕ, ◌<◌, ◌≤◌, ◌⊎◌, List, [], ◌∷◌, get_or, Result, Ok, Err, sym, refl, ap, ◌∙◌, inl, inr, le_trans, arith, lit≤}
-use lib.ListN.{get_or-eq_default}
+use Rattle.std.proofs.Common.{◌≡◌, ℕ, ◌<◌, List, [], ◌∷◌, get_or, Result, Ok, Err, sym, refl, ap, ◌∙◌, ⊎_elim, le_trans, arith, lit≤}
+use Rattle.std.proofs.Math.ListN.{get_or-eq_default}
 use Rattle.std.proofs.lemmas.Bool.{cases_lt}
 use Rattle.registers.specs.declared.Refusal.{Refusal}
 use Rattle.registers.specs.declared.Refusal.TheVariants.{MemorySize, UnknownCommand, NothingWanted, NotAllowed, Asleep, NothingToRead, OutsideMemory, FontSize, GreyMode, CharacterWidth, RowWidth, OddLines, ShortLine, LayerOrder, CursorShape, RowNumber, BufferSize, SmoothScroll, DisplayOff}
@@ -70,8 +70,4 @@ number_not_0 r e = not_accepted r (ap answered e)
 
 -- 255 is free to say something else
 pub number_below : (r : Refusal) → number r < 255
-number_below r = go (cases_lt (number r) 255)
-  where
-    go : (number r < 255) ⊎ (255 ≤ number r) → number r < 255
-    go (inl h) = h
-    go (inr h) = absurd (not_accepted r (get_or-eq_default answers (Ok tt) (le_trans (lit≤ tt) h)))
+number_below r = ⊎_elim (λ h. h) (λ h. absurd (not_accepted r (get_or-eq_default answers (Ok tt) (le_trans (lit≤ tt) h)))) (cases_lt (number r) 255)

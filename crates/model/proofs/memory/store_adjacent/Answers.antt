@@ -1,11 +1,6 @@
 use Rattle.std.proofs.Common.{◌≡◌, length, take, zero-add, arith, length-take-le}
-use Rattle.model.proofs.Strides.{none_stored, adjacent, put_back}
+use Rattle.model.proofs.Strides.{adjacent, put_back}
 use Rattle.model.proofs.memory.store_adjacent.Goals as goal
-
-pub returns-then-at-ge32768 : goal.returns-then-at-ge32768
-returns-then-at-ge32768 c =
-    let a = c.args in
-    none_stored 1 0 a.address a.memory.now a.bytes.now (λ h. omega arith)
 
 pub returns : goal.returns
 returns c =

@@ -109,7 +109,7 @@ impl Controller {
     }
 
     #[tactic(auto, unfolding(crate::specs::Bus::data_write, crate::specs::Bus::write_data))]
-    fn take_data(&mut self, memory: &mut [u8], b: u8) -> Result<(), Refusal>
+    fn write_data(&mut self, memory: &mut [u8], b: u8) -> Result<(), Refusal>
         ensures { written_outcome self.new result memory.new ≡ data_write (machine self.old memory.old) b }
     {
         if memory.len() != MEMORY_SIZE {
@@ -125,7 +125,7 @@ impl Controller {
     }
 
     #[tactic(auto, unfolding(crate::specs::Bus::data_read, crate::specs::Bus::read_data, crate::specs::Bus::read_cursor))]
-    fn give_data(&mut self, memory: &[u8]) -> Result<u8, Refusal>
+    fn read_data(&mut self, memory: &[u8]) -> Result<u8, Refusal>
         ensures { read_outcome self.new result memory.now ≡ data_read (machine self.old memory.now) }
     {
         if memory.len() != MEMORY_SIZE {
@@ -156,7 +156,7 @@ impl Controller {
         }
     }
 
-    // The calls: each hands back the controller as it leaves it, and what it answers
+    // The calls go by value, as the scope of the project has it: each hands back the controller and the answer. Their steps above go in place.
 
     pub fn command_write(mut self, b: u8) -> (Controller, Result<(), Refusal>)
         ensures { (memory : List ℕ) → written_outcome result.0 result.1 memory ≡ command_write (machine self memory) b }
@@ -168,14 +168,14 @@ impl Controller {
     pub fn data_write(mut self, memory: &mut [u8], b: u8) -> (Controller, Result<(), Refusal>)
         ensures { written_outcome result.0 result.1 memory.new ≡ data_write (machine self memory.old) b }
     {
-        let answer = self.take_data(memory, b);
+        let answer = self.write_data(memory, b);
         (self, answer)
     }
 
     pub fn data_read(mut self, memory: &[u8]) -> (Controller, Result<u8, Refusal>)
         ensures { read_outcome result.0 result.1 memory.now ≡ data_read (machine self memory.now) }
     {
-        let answer = self.give_data(memory);
+        let answer = self.read_data(memory);
         (self, answer)
     }
 

@@ -24,6 +24,7 @@ impl<P: Print> Session<'_, '_, P> {
     {
         let (controller, length) = self.controller.write_run(self.memory, &payload[1..]);
         self.controller = controller;
+        // By the place, which is the byte's number in a line.
         for i in 1 + length..payload.len() {
             let (controller, answer) = self.controller.data_write(self.memory, payload[i]);
             self.controller = controller;

@@ -1,5 +1,5 @@
--- A code that is in its layout is the code of what it stands for.
-use Rattle.std.proofs.Common.{◌≡◌, ℕ, zero, suc, ◌<◌, refl, arith, ne_eqb}
+-- The names of codes: in its layout a code is the code of its name, and mixing by the name is mixing by the code, whatever code it is.
+use Rattle.std.proofs.Common.{◌≡◌, ℕ, zero, suc, ◌<◌, refl, arith, ne_eqb, le-ltb}
 use Rattle.dots.specs.Bytes.{depth_of, depth_code}
 use Rattle.dots.specs.Mixing.{mix_of, mix_code}
 use Rattle.dots.specs.MixedBytes.{first_byte, mix_byte, third_mix}
@@ -31,4 +31,13 @@ mix_any (suc zero) grey a b = refl
 mix_any (suc (suc zero)) grey a b = refl
 mix_any (suc (suc (suc n))) grey a b =
     rw (ne_eqb (suc (suc (suc n))) 0 (λ e. omega (arith, e)), ne_eqb (suc (suc (suc n))) 1 (λ e. omega (arith, e)), ne_eqb (suc (suc (suc n))) 2 (λ e. omega (arith, e)))
+    (first_any grey a b)
+
+pub third_any : (mx grey a b : ℕ) → mix_byte (third_mix (mix_code (mix_of mx))) (depth_code (depth_of grey)) a b ≡ mix_byte (third_mix mx) grey a b
+unfolding mix_byte third_mix
+third_any zero grey a b = refl
+third_any (suc zero) grey a b = refl
+third_any (suc (suc zero)) grey a b = refl
+third_any (suc (suc (suc n))) grey a b =
+    rw (le-ltb (suc (suc (suc n))) 3 (omega arith), ne_eqb (suc (suc (suc n))) 0 (λ e. omega (arith, e)), ne_eqb (suc (suc (suc n))) 1 (λ e. omega (arith, e)), ne_eqb (suc (suc (suc n))) 2 (λ e. omega (arith, e)))
     (first_any grey a b)

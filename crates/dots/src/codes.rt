@@ -1,4 +1,4 @@
-// The codes of MX and of GRAY SCALE. A code past the last counts as the last.
+// The codes of MX and of GRAY SCALE. A code past the last counts as the last, as in `mix_byte`; a row's registers have none such (`in_layout`).
 ghost use Rattle.std.specs.Prelude.{◌≡◌};
 ghost use Rattle.dots.specs.Mixing.{mix_of};
 ghost use Rattle.dots.specs.Bytes.{depth_of};

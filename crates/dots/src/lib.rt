@@ -1,4 +1,4 @@
-// Lines of bytes: cleared, mixed, scrolled, and expanded to dots. It knows no register.
+// Lines of bytes: cleared, mixed, scrolled, and expanded to dots. It knows no register but the codes of MX and GRAY SCALE.
 #![tactic(auto)]
 
 mod clearing;

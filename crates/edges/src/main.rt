@@ -17,9 +17,8 @@ fn two_lines(memory: &mut [u8]) -> Result<Controller, Refusal> {
     Ok(c)
 }
 
-fn ask(rt: &impl Print, c: &Controller, memory: &[u8], font: &[u8], row: u32) {
-    let mut out = [0u8; 8];
-    let number = match c.row(memory, font, 0, row, &mut out) {
+fn print_answer(rt: &impl Print, answer: Result<(), Refusal>) {
+    let number = match answer {
         Ok(()) => 0,
         Err(refusal) => u8::from(refusal),
     };
@@ -30,10 +29,13 @@ fn ask(rt: &impl Print, c: &Controller, memory: &[u8], font: &[u8], row: u32) {
 fn main(rt: HostRuntime) {
     let mut memory = [0u8; MEMORY_SIZE];
     let font = [0u8; FONT_SIZE];
-    // Where a call is refused nothing is printed, which the gate sees.
-    if let Ok(c) = two_lines(&mut memory) {
-        for row in 0..3 {
-            ask(&rt, &c, &memory, &font, row);
+    match two_lines(&mut memory) {
+        Ok(c) => {
+            for row in 0..3 {
+                let mut out = [0u8; 8];
+                print_answer(&rt, c.row(&memory, &font, 0, row, &mut out));
+            }
         }
+        Err(refusal) => print_answer(&rt, Err(refusal)),
     }
 }

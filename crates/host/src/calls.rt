@@ -1,12 +1,13 @@
 // Single calls. Each answers with the number of the refusal, 0 where there is none; or with NO_CONTROLLER, and then it changes
 // nothing. A data read answers with its value too, times 256. The size of a frame has no refusal, and is 0 in place of NO_CONTROLLER.
+// The first calls read, call and save alike: a closure over the call would hold the lent memory, and be no shorter.
 ghost use Rattle.std.specs.Prelude.{ℕ, List, ◌≡◌};
 ghost use Rattle.registers.specs.Refusals.{reply, read_reply};
 ghost use Rattle.model.specs.Calls.{command, write, read};
 ghost use Rattle.host.specs.Calls.{returned, answer_of, after_reset, after_call, after_row, row_returned, frame_size_returned};
 
-use crate::NO_CONTROLLER;
 use crate::saved::{read, write};
+use crate::{NO_CONTROLLER, SAVED_LENGTH};
 use model::Controller;
 use registers::Refusal;
 
@@ -32,7 +33,7 @@ fn read_number(answer: Result<u8, Refusal>) -> u32
 pub extern "C" fn granivolche_reset(controller: &mut [u8]) -> u32
     ensures { (memory : List ℕ) → returned result controller.new memory ≡ after_reset controller.old memory }
 {
-    if controller.len() != 48 {
+    if controller.len() != SAVED_LENGTH {
         return NO_CONTROLLER;
     }
     write(&Controller::reset(), controller);

@@ -2,6 +2,7 @@
 ghost use Rattle.std.specs.Prelude.{◌≡◌, [], ◌∷◌, length};
 ghost use Rattle.host.specs.Saved.{saved_controller, direction_numbered, system_of, blocks_of, registers_of, flag, low, high, pending_code, direction_number, saved_bytes};
 
+use crate::SAVED_LENGTH;
 use model::{Controller, Pending};
 use registers::{
     Blocks, Code, Command, Cursor, CursorForm, Direction, Display, Overlay, Registers, System,
@@ -20,7 +21,7 @@ fn direction(n: u8) -> Direction
     }
 }
 
-fn system(s: &[u8; 48]) -> System
+fn system(s: &[u8; SAVED_LENGTH]) -> System
     ensures { result ≡ system_of s.now }
 {
     System {
@@ -38,7 +39,7 @@ fn system(s: &[u8; 48]) -> System
     }
 }
 
-fn blocks(s: &[u8; 48]) -> Blocks
+fn blocks(s: &[u8; SAVED_LENGTH]) -> Blocks
     ensures { result ≡ blocks_of s.now }
 {
     Blocks {
@@ -51,7 +52,7 @@ fn blocks(s: &[u8; 48]) -> Blocks
     }
 }
 
-fn registers(s: &[u8; 48]) -> Registers
+fn registers(s: &[u8; SAVED_LENGTH]) -> Registers
     ensures { result ≡ registers_of s.now }
 {
     Registers {
@@ -90,7 +91,7 @@ fn registers(s: &[u8; 48]) -> Registers
 pub fn read(bytes: &[u8]) -> Option<Controller>
     ensures { result ≡ saved_controller bytes.now }
 {
-    let s = <&[u8; 48]>::try_from(bytes).ok()?;
+    let s = <&[u8; SAVED_LENGTH]>::try_from(bytes).ok()?;
     if s[0] != 1 {
         return None;
     }
@@ -129,7 +130,7 @@ fn direction_number(direction: Direction) -> u8
 }
 
 #[tactic(auto, unfolding(crate::specs::Saved::saved_bytes))]
-fn saved(c: &Controller) -> [u8; 48]
+fn saved(c: &Controller) -> [u8; SAVED_LENGTH]
     ensures { result ≡ saved_bytes c.now }
 {
     let r = &c.registers;
@@ -197,7 +198,7 @@ fn saved(c: &Controller) -> [u8; 48]
     ]
 }
 
-// A controller into 48 bytes.
+// A controller into 48 bytes: callers have them as a slice, of which `read` found that it has so many.
 pub fn write(c: &Controller, out: &mut [u8])
     requires { length out.old ≡ 48 }
     ensures { out.new ≡ saved_bytes c.now }

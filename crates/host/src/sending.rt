@@ -21,6 +21,7 @@ fn send(c: Controller, memory: &mut [u8], bytes: &[u8], answers: &mut [u8]) -> (
     answers[0] = number(first);
     let mut refused = u32::from(first.is_err());
     let (mut c, taken) = c.write_run(memory, &bytes[1..]);
+    // By the place: of what is written through `zip` std says nothing.
     for i in 1 + taken..bytes.len() {
         let (next, answer) = c.data_write(memory, bytes[i]);
         c = next;

@@ -8,7 +8,7 @@ ghost use Rattle.lines.specs.Lines.{line_text, row_line, appended, used_after};
 
 use text::hex_digit;
 
-// Every line but a row of dots.
+// Every line but a row of dots. A refusal is a number here, as `lines` knows no registers.
 #[derive(Clone, Copy, PartialEq, Eq, Debug)]
 pub enum Line {
     // `refused RECORD BYTE NUMBER`

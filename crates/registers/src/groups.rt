@@ -1,4 +1,5 @@
 // What a parameter sets in the group of its command. A place is counted from 0; past the end of a list nothing is set.
+// Bits are cut out by / and %, as the definitions do it: with masks the check found no proof.
 ghost use Rattle.std.specs.Prelude.{◌≡◌};
 ghost use Rattle.registers.specs.Parameters.{with_low, with_high, store_word, store_system, store_display, store_blocks, store_form, store_overlay, system_allows, form_allows};
 

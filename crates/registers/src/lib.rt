@@ -33,7 +33,7 @@ impl Code {
 }
 
 // A command of the command table, and its code, the first of a range.
-#[derive(Clone, Copy, PartialEq, Eq)]
+#[derive(Clone, Copy, PartialEq, Eq, Debug)]
 pub enum Command {
     SystemSet = 0x40,
     SleepIn = 0x53,
@@ -136,7 +136,7 @@ pub struct Registers {
 }
 
 // The refusals, in the order of their numbers: the error of a call that is refused.
-#[derive(Clone, Copy)]
+#[derive(Clone, Copy, PartialEq, Eq, Debug)]
 pub enum Refusal {
     MemorySize,
     UnknownCommand,

@@ -11,7 +11,7 @@ impl<P: Print> Session<'_, '_, P> {
     fn run_command(&mut self, b: u8, record: u64)
         ensures { CarriesOutCalls «record» 1 (command b ∷ []) (live self.old) (live self.new) }
     {
-        let answer = self.controller.take_command(b);
+        let answer = self.controller.command_write_in_place(b);
         self.output.print_answer(answer, record, 1);
     }
 
@@ -21,9 +21,12 @@ impl<P: Print> Session<'_, '_, P> {
         ensures { CarriesOutCalls «record» 2 (map write (drop 1 payload.now))
             (live self.old) (live self.new) }
     {
-        let length = self.controller.take_run(self.memory, &payload[1..]);
+        let length = self
+            .controller
+            .write_run_in_place(self.memory, &payload[1..]);
+        // By the place, which is the byte's number in a line.
         for i in 1 + length..payload.len() {
-            let answer = self.controller.take_data(self.memory, payload[i]);
+            let answer = self.controller.data_write_in_place(self.memory, payload[i]);
             self.output.print_answer(answer, record, i as u64 + 1);
         }
     }
@@ -43,7 +46,7 @@ impl<P: Print> Session<'_, '_, P> {
     {
         // Lent as `&mut`: what stands behind a field that was lent as `&` the check does not know afterwards.
         let memory = &mut *self.memory;
-        let answer = self.controller.give_data(memory);
+        let answer = self.controller.data_read_in_place(memory);
         self.output.print_read(answer, record, index);
     }
 

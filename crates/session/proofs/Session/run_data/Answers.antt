@@ -6,7 +6,7 @@ use Rattle.session.proofs.Calls.{one_call, data_more, run_first, run_in_data, no
 use Rattle.session.proofs.Session.run_data.Goals as goal
 
 pub overflow_step-i : goal.overflow_step-i
-overflow_step-i g c = omega (arith, run_in_data c.args.payload.now _ (rw take_rest at c.take_run-length.ensures))
+overflow_step-i g c = omega (arith, run_in_data c.args.payload.now _ (rw take_rest at c.write_run_in_place-length.ensures))
 
 pub loop-i-preserved : goal.loop-i-preserved
 loop-i-preserved g c =
@@ -14,7 +14,7 @@ loop-i-preserved g c =
     let l = c.loop-i in
     let now = live l.self in
     let printed = c.print_answer.ensures in
-    let one = one_call a.«record» (l.i + 1) now (write (get_or a.payload.now l.i 0)) c.take_data-answer.ensures printed.text printed.stays printed.same in
+    let one = one_call a.«record» (l.i + 1) now (write (get_or a.payload.now l.i 0)) c.data_write_in_place-answer.ensures printed.text printed.stays printed.same in
     λ u rest. l.invariant u (data_more a.«record» l.i a.payload.now now c.loop-i-test.true one rest)
 
 pub returns : goal.returns
@@ -22,5 +22,5 @@ returns g c =
     let a = c.args in
     let l = c.loop-i in
     let left = live l.self in
-    run_first a.«record» a.payload.now (live a.self.now) {u = left} (rw take_rest at c.take_run-length.ensures)
+    run_first a.«record» a.payload.now (live a.self.now) {u = left} (rw take_rest at c.write_run_in_place-length.ensures)
     (l.invariant left (no_calls _ _ _ _ (ap (λ (bs : List ℕ). map write bs) (drop_of_length-le _ c.loop-i-test.false))))

@@ -12,6 +12,7 @@ use arrayvec::ArrayString;
 // A name, four numbers, each a blank and at most 20 digits, and an end.
 const LONGEST: usize = 7 + 4 * 21 + 4;
 
+// Upper case, of the low four bits: `char::from_digit` gives lower case, and an Option.
 #[tactic(auto, using(crate::proofs::Digits::digit_code))]
 pub fn hex_digit(n: u8) -> u8
     ensures value { result ≡ hex_digit n }

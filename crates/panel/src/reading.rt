@@ -6,7 +6,8 @@ use std::fs;
 use std::io::Read;
 use std::rt::Files;
 
-// A bus file that is read in parts: its bytes at hand are the first of the buffer, up to filled; ended says that no more come.
+// A bus file that is read in parts: its bytes at hand are the first of the buffer, up to filled, as there is no heap to grow them in; ended says that
+// no more come, and is a flag, since the bytes at hand count either way.
 #[derive(Drop)]
 pub struct Input<'b, R> {
     reader: R,

@@ -58,7 +58,7 @@ impl<P: Print> Session<'_, '_, P> {
     {
         let mut row = [0u8; 640];
         let size = row::frame_size(self.controller.registers);
-        let width = row.len().min(size.width as usize);
+        let width = row.len().min(size.width.into());
         let frame = Frame {
             record,
             number,

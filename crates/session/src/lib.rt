@@ -10,7 +10,8 @@ use lines::Lines;
 use model::Controller;
 use registers::Count;
 
-// Standard output behind a buffer: the lines that wait, and whether the output still takes them.
+// Standard output behind a buffer: the lines that wait, and whether the output still takes them. That is a flag, since lines are put into the buffer of
+// a closed output too (`printed`).
 #[derive(Drop)]
 pub struct Output<'r, 'w, P> {
     pub rt: &'r P,
@@ -28,7 +29,7 @@ pub struct Session<'r, 'w, P> {
 }
 
 // How far a file is: where the next record stands, how many were good, and whether the file goes on. That is a flag beside the place, since
-// Progress, next_step and Ran speak of it after the last record too.
+// `Progress`, `next_step` and `Ran` speak of it after the last record too.
 #[derive(Drop)]
 pub struct Step<'r, 'w, P> {
     pub session: Session<'r, 'w, P>,

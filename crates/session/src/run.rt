@@ -55,7 +55,7 @@ impl<P: Print> Session<'_, '_, P> {
         ensures { CarriesOutCalls «record» 1 (replicate count read) (live self.old) (live self.new) }
     {
         for i in 1..=count {
-            self.run_read(record, i as u64);
+            self.run_read(record, i.into());
         }
     }
 

@@ -9,7 +9,7 @@ returns g c =
     let a = c.args in
     let s = a.self.now in
     let size : length (take c.min-width.result (replicate {A = ℕ} 640 0)) ≡ min 640 c.frame_size-size.result.width =
-    rw length-take (omega (arith, c.min-width.ensures)) in
+    rw length-take (omega (arith, c.into.ensures, c.min-width.ensures)) in
     rw (← in_640 (state s).machine s.font.now a.number a.«record»
     (size ∙ ap (λ (x : FrameSize). min 640 x.width) c.frame_size-size.ensures)
     (ap (λ (x : FrameSize). x.rows) c.frame_size-size.ensures))

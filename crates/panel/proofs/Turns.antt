@@ -1,5 +1,5 @@
 -- One turn: the file is read on, and a record is carried out in the part at hand.
-use Rattle.std.proofs.Common.{◌≡◌, ℕ, suc, ◌≤◌, Bool, true, false, ◌⊎◌, List, [], ◌++◌, length, refl, sym, ap, subst, ◌∙◌, inl, arith, length-take-le}
+use Rattle.std.proofs.Common.{◌≡◌, ℕ, suc, ◌≤◌, false, ◌⊎◌, List, [], ◌++◌, length, refl, sym, ap, subst, ◌∙◌, arith, length-take-le}
 use Rattle.session.specs.declared.Step.{Step}
 use Rattle.session.specs.Output.{buffer_of, flushes, OpenAfter}
 use Rattle.session.specs.File.{Progress, progress, next_step, step_lines}
@@ -35,11 +35,6 @@ module _ {P R : Type 0} (font file : List ℕ) (step s : Step P) (input input' :
         part = filled.inside.part;
         roomy = filled.inside.roomy;
       }
-
--- no step is done
-pub started : (font : List ℕ) (start p : Progress) (takes : Bool) (part : List ℕ) (ended : Bool) → p ≡ start → takes ≡ true → SoFar font start 0 p takes part ended
-started font start p takes part ended e f =
-    record { before = []; reached = λ after last. sym e ∙ ap (λ (at : ℕ). placed at p) (omega arith); stays = λ after last. inl f }
 
 -- the file is what was read
 pub ran : {P R : Type 0} (font : List ℕ) (start : Progress) (k turns : ℕ) (step : Step P) (input : Input R) → Done font start k step input

@@ -2,8 +2,7 @@
 use Rattle.std.proofs.Common.{◌≡◌, ℕ, Bool, ◌||◌, List, [], ◌∷◌, ◌++◌, sym, refl, ap, ◌∙◌, inl, inr}
 use Rattle.std.proofs.Math.Bool.{or_assoc}
 use Rattle.std.proofs.lemmas.Bool.{or_right}
-use Rattle.session.specs.declared.Output.{Output}
-use Rattle.session.specs.Output.{Buffer, buffer_of, is_full, printed, printed_all, flushes, OpenAfter, Prints}
+use Rattle.session.specs.Output.{Buffer, is_full, printed, printed_all, flushes, OpenAfter}
 
 pub printed_both : (b : Buffer) (xs ys : List (List ℕ)) → printed_all b (xs ++ ys) ≡ printed_all (printed_all b xs) ys
 printed_both b [] ys = refl
@@ -20,17 +19,3 @@ open_both v w (inr e) (inr f) = inr (rw e.0, f.1)
 pub flushes_both : (b : Buffer) (xs ys : List (List ℕ)) → flushes b (xs ++ ys) ≡ (flushes b xs || flushes (printed_all b xs) ys)
 flushes_both b [] ys = refl
 flushes_both b (x ∷ xs) ys = ap (λ (w : Bool). is_full b || w) (flushes_both (printed b x) xs ys) ∙ sym (or_assoc (is_full b) _ _)
-
--- Lines that are printed
-
-pub prints_none : {P : Type 0} (o : Output P) → Prints [] o o
-prints_none o = record { text = refl; stays = inl refl; same = refl }
-
--- lines, and lines after them
-pub prints_both : {P : Type 0} (xs ys : List (List ℕ)) {o p q : Output P} → Prints xs o p → Prints ys p q → Prints (xs ++ ys) o q
-prints_both xs ys {o} h k =
-    record {
-      text = k.text ∙ rw h.text (sym (printed_both (buffer_of o) xs ys));
-      stays = rw flushes_both (open_both _ _ h.stays (rw h.text at k.stays));
-      same = k.same ∙ h.same;
-    }

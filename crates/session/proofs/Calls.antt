@@ -2,7 +2,7 @@
 use Rattle.std.proofs.Common.{◌≡◌, ℕ, suc, ◌+◌, ◌-◌, ◌<◌, ◌≤◌, Bool, List, [], ◌∷◌, ◌++◌, map, length, get_or, take, drop, replicate, sym, refl, ap, ◌∙◌, subst, inl, append-nil, add-zero, add-one, arith, take-append-drop, length-drop, length-take-le, drop-cons, drop-drop}
 use Rattle.registers.specs.Refusals.{accepted}
 use Rattle.model.specs.Machine.{Machine, Outcome}
-use Rattle.model.specs.Calls.{BusCall, command, write, read, bus_calls, call, after, outcomes}
+use Rattle.model.specs.Calls.{BusCall, write, read, call, after, outcomes}
 use Rattle.model.specs.Refresh.{All}
 use Rattle.model.specs.WriteRun.{run_length, RunOutcome, run_outcome}
 use Rattle.model.proofs.WriteRuns.{run_within, run_accepted}
@@ -98,12 +98,6 @@ run_first r payload s {u = u} e rest =
   where
     further : (n : ℕ) → 1 + n + 1 ≡ 2 + n
     further n = omega arith
-
--- a payload's command byte, and its data
-pub command_first : (r : ℕ) (payload : List ℕ) (s : Live) {t u : Live} → 0 < length payload → CarriesOutCalls r 1 (command (get_or payload 0 0) ∷ []) s t
-    → CarriesOutCalls r 2 (map write (drop 1 payload)) t u → CarriesOutCalls r 1 (bus_calls payload) s u
-command_first r [] s h e rest = absurd (omega arith)
-command_first r (b ∷ bs) s h e rest = call_first r 1 s (command b) (map write bs) e rest
 
 -- one read more, numbered i of a count
 pub read_more : (r i count : ℕ) (s : Live) {t u : Live} → i ≤ count → CarriesOutCalls r i (read ∷ []) s t

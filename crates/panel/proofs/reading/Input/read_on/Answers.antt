@@ -1,5 +1,5 @@
-use Rattle.std.proofs.Common.{◌≡◌, ℕ, ◌+◌, ◌-◌, ◌≤◌, ◌⊎◌, Bool, true, false, T, List, [], ◌++◌, ltb, length, take, drop, refl, sym, ap, subst, ◌∙◌, inl, inr, arith, append-nil, zero-le, length-take-le, take-add, take_at}
-use Rattle.std.proofs.lemmas.Bool.{leb-true, ltb-false}
+use Rattle.std.proofs.Common.{◌≡◌, ℕ, ◌+◌, ◌-◌, ◌≤◌, ◌⊎◌, Bool, true, false, T, List, [], ◌++◌, ltb, length, take, drop, refl, sym, ap, subst, ◌∙◌, inl, inr, ⊎_elim, arith, append-nil, zero-le, length-take-le, take-add, take_at}
+use Rattle.std.proofs.lemmas.Bool.{cases_lt, leb-true, lt-ltb}
 use Rattle.busfile.specs.Records.{part_of, compacted}
 use Rattle.busfile.specs.Parts.{longest_record}
 use Rattle.session.specs.Reading.{ReadsOn}
@@ -28,11 +28,7 @@ unread at input inside enough =
 
 -- a buffer that was not filled up has ended, and one that was holds the longest record
 filled_up : (total size : ℕ) → longest_record ≤ size → (ltb total size ≡ true) ⊎ (longest_record ≤ total)
-filled_up total size h = go (ltb total size) refl
-  where
-    go : (b : Bool) → ltb total size ≡ b → (b ≡ true) ⊎ (longest_record ≤ total)
-    go true e = inl refl
-    go false e = inr (omega (arith, h, ltb-false total size e))
+filled_up total size h = ⊎_elim (λ l. inl (lt-ltb total size l)) (λ l. inr (omega (arith, h, l))) (cases_lt total size)
 
 -- what is left of the part moves to the front, and what was read stands behind it
 read_behind : (input moved read : List ℕ) (at filled kept total : ℕ) (ended : Bool) → at ≤ filled → filled ≤ length input → longest_record ≤ length input → ended ≡ false

@@ -22,7 +22,7 @@ pub struct Record {
     pub end: usize,
 }
 
-// What stands at a place of a bus file. Three cases, which callers match at once: `Result<Option<Record>, BadRecord>` would nest them.
+// What stands at a place of a bus file. Three cases, as the format has them: `Option<Result<Record, BadRecord>>` would name them no plainer.
 #[derive(Clone, Copy, PartialEq, Eq, Debug)]
 pub enum Found {
     Record(Record),

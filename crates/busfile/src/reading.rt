@@ -5,7 +5,7 @@ ghost use Rattle.busfile.specs.Records.{shape_of, record_at, part_of};
 use crate::records::{part, rest, word};
 use crate::{Found, Kind, Reader, Record};
 
-// The kind with that number, where a payload of that length goes with it.
+// The kind with that number, as the file has it, where a payload of that length goes with it.
 #[tactic(auto, unfolding(crate::specs::Records::shape_of))]
 fn shape_of(kind: u16, size: u16) -> Option<Kind>
     ensures { result ≡ shape_of kind size }

@@ -15,6 +15,7 @@ fn scrolled_byte(per: usize, n: usize, a: u8, b: u8) -> u8
     ensures { result ≡ scrolled_byte per n a b }
 {
     let pair = u16::from_be_bytes([a >> (8 - per), b]);
+    // The low byte, cut out as in the definition.
     ((pair >> (per - n)) % 256) as u8
 }
 
@@ -27,6 +28,7 @@ fn scroll(per: usize, n: usize, line: &mut [u8])
     if n == 0 {
         return;
     }
+    // By the place: what is written comes from this byte and the next.
     for i in 1..line.len() {
         line[i - 1] = scrolled_byte(per, n, line[i - 1], line[i]);
     }

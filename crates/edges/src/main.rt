@@ -17,6 +17,7 @@ fn two_lines(memory: &mut [u8]) -> Result<Controller, Refusal> {
     Ok(c)
 }
 
+// The number of an answer, as `host` has it, on which this program does not stand.
 fn print_answer(rt: &impl Print, answer: Result<(), Refusal>) {
     let number = match answer {
         Ok(()) => 0,

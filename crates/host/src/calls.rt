@@ -12,6 +12,7 @@ use crate::{NO_CONTROLLER, SAVED_LENGTH};
 use model::Controller;
 use registers::Refusal;
 
+// C has no Result: an answer is a number.
 pub fn number(answer: Result<(), Refusal>) -> u8
     ensures { result ≡ (reply answer).refusal }
 {

@@ -104,6 +104,7 @@ pub fn read(bytes: &[u8]) -> Option<Controller>
     })
 }
 
+// A field as bytes, here and in the next three: a clause each in the words of the definition, by which the check finds the 48 bytes.
 fn flag(b: bool) -> u8
     ensures { result ≡ flag b }
 {
@@ -198,7 +199,7 @@ fn saved(c: &Controller) -> [u8; SAVED_LENGTH]
     ]
 }
 
-// A controller into 48 bytes: callers have them as a slice, of which `read` found that it has so many.
+// A controller into 48 bytes: callers have them as a slice that `read`, or `granivolche_reset` itself, found to have so many.
 pub fn write(c: &Controller, out: &mut [u8])
     requires { length out.old ≡ 48 }
     ensures { out.new ≡ saved_bytes c.now }

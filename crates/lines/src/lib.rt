@@ -23,7 +23,7 @@ pub enum Line {
     End(u64),
 }
 
-// Lines that wait in a lent buffer, whose first bytes they use.
+// Lines that wait in a lent buffer, whose first bytes they use: with a count, as the buffer is lent and of any length.
 #[derive(Drop)]
 pub struct Lines<'a> {
     pub buffer: &'a mut [u8],
@@ -67,7 +67,7 @@ impl<'a> Lines<'a> {
         self.used = end;
     }
 
-    // A row, one hex digit a dot.
+    // A row, one hex digit a dot. Not by a text as in `append_line`: it goes straight into the buffer, as there are 240 a frame.
     #[tactic(auto, using(crate::proofs::Rows::row_steps))]
     pub fn append_row(&mut self, dots: &[u8])
         ensures used { self.new.used ≡ used_after self.old.buffer.now self.old.used (row_line dots.now) }

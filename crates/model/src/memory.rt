@@ -14,7 +14,7 @@ use registers::{Direction, MEMORY_SIZE, Refusal};
 // The last address of memory.
 const LAST_ADDRESS: u16 = (MEMORY_SIZE - 1) as u16;
 
-// The address behind bytes that were stored, and how many they are.
+// The address behind bytes that were stored, and how many they are. A struct, as the numbers of a pair have no names.
 #[derive(Clone, Copy)]
 struct Stored {
     address: u16,

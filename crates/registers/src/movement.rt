@@ -4,7 +4,7 @@ ghost use Rattle.registers.specs.Cursor.{next_cursor, move_cursor};
 
 use crate::{Cursor, Direction, Registers};
 
-// The address so many bytes on. It wraps on purpose.
+// The address so many bytes on. It wraps on purpose. A function of its own, and `back` too, for a clause in the words of the definition.
 fn forward(address: u16, step: u16) -> u16
     ensures { result ≡ (address + step) % 65536 }
 {

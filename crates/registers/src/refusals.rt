@@ -1,4 +1,5 @@
-// The number of a refusal. A match, and not discriminants, which differ by themselves: that these do is proved (proofs/Numbers).
+// The number of a refusal. A match, and not discriminants, which could not be equal: that the numbers differ is a statement of its own (proofs/Numbers),
+// which must-fail/two_refusals_one_number breaks.
 ghost use Rattle.std.specs.Prelude.{◌≡◌};
 ghost use Rattle.registers.specs.Refusals.{number};
 

@@ -8,7 +8,8 @@ use crate::{
 };
 
 impl Direction {
-    // The direction of a byte from 4C to 4F; any other counts as the last, so that it is no conversion of a byte.
+    // The direction of a command byte from 4C to 4F; any other counts as the last. A saved direction is read otherwise, from 0 to 3, and `From` could be but
+    // one of the two.
     #[tactic(auto, unfolding(crate::specs::Parameters::direction_of))]
     pub fn of(b: u8) -> Direction
         ensures { result ≡ direction_of b }

@@ -1,4 +1,4 @@
-// Which rows are refused. Each rule takes what its definition takes. The grey code stays a number here, as in `dots_per_column`.
+// Which rows are refused. Each rule takes the fields that it names. The grey code stays a number here, as in `dots_per_column`.
 ghost use Rattle.std.specs.Prelude.{◌≡◌, ◌<◌, OnOk};
 ghost use Rattle.registers.specs.Refusals.{reply};
 ghost use Rattle.registers.specs.Sizes.{memory_size, font_size};

@@ -59,7 +59,7 @@ impl<P: Print> Session<'_, '_, P> {
         }
     }
 
-    // Carries one record out.
+    // Carries one record out: three methods with arguments of their own, so that a match is the plainest switch.
     pub(crate) fn run_record(&mut self, kind: Kind, payload: &[u8], record: u64)
         ensures { CarriesOutRecord «record» kind payload.now (live self.old) (live self.new) }
     {

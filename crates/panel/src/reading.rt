@@ -71,7 +71,7 @@ impl<'b, R: Read> Input<'b, R> {
     }
 
     // Reads on from a place, unless the longest record there would be whole, and answers where the place is then.
-    pub fn read_on(&mut self, at: usize) -> usize
+    pub(crate) fn read_on(&mut self, at: usize) -> usize
         requires { InPart at self.old }
         ensures { Filled at self.old result self.new }
     {

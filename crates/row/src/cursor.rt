@@ -52,7 +52,7 @@ impl Scene<'_> {
 
     // Stage 2 of a row: the cursor in the bytes of layer 1. A row has at most one column at its address.
     #[tactic(auto, unfolding(crate::specs::Cursor::has_cursor))]
-    pub fn invert(&self, layer: Option<BlockRow>, line: &mut [u8])
+    pub(crate) fn invert(&self, layer: Option<BlockRow>, line: &mut [u8])
         requires { length line.old ≤ 65536 }
         ensures { let s = self.now in
             line.new ≡ table (length line.old) (λ c. cursor_byte s.registers s.frame layer c (slice_index line.old c)) }

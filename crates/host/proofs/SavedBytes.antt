@@ -1,11 +1,9 @@
 -- Saved controllers: laws on their bytes, and that reading and saving undo each other.
-use Rattle.std.proofs.Common.{◌≡◌, ℕ, ◌+◌, ◌*◌, ◌<◌, Bool, true, false, Option, None, Some, List, length, sym, refl, ◌∙◌, arith, eqb-true}
+use Rattle.std.proofs.Common.{◌≡◌, ℕ, ◌+◌, ◌*◌, ◌<◌, Bool, true, false, List, length, sym, refl, ◌∙◌, arith, eqb-true}
 use Rattle.choice.specs.Choice.{◌=?◌}
 use Rattle.std.proofs.lemmas.Bool.{and_parts}
 use Rattle.choice.proofs.Cases.{below2, below4}
-use Rattle.registers.proofs.Codes.{of_code}
-use Rattle.registers.specs.declared.Command.{Command}
-use Rattle.registers.specs.Commands.{command_of}
+use Rattle.registers.proofs.Codes.{of_pending_code}
 use Rattle.registers.specs.declared.Direction.{Direction}
 use Rattle.registers.specs.declared.Direction.TheVariants.{Right, Left, Up, Down}
 use Rattle.registers.specs.Parameters.{direction_of}
@@ -14,7 +12,7 @@ use Rattle.dots.proofs.Tables.{is_table}
 use Rattle.model.specs.declared.Controller.{Controller}
 use Rattle.model.specs.Refresh.{All, Byte}
 use Rattle.model.proofs.Runs.{byte_at_lem}
-use Rattle.host.specs.Saved.{byte_at, is_saved, flag, pending_code, low, high, direction_number, direction_numbered, saved_bytes, controller_of, InLayout, SavedForm}
+use Rattle.host.specs.Saved.{byte_at, is_saved, flag, low, high, direction_number, direction_numbered, saved_bytes, controller_of, InLayout, SavedForm}
 
 pub saved_length : (s : List ℕ) → is_saved s ≡ true → length s ≡ 48
 unfolding is_saved
@@ -29,11 +27,6 @@ saved_format s e = eqb-true _ _ (and_parts (length s =? 48) (byte_at s 0 =? 1) e
 flag_read : (b : Bool) → (flag b =? 1) ≡ b
 flag_read true = refl
 flag_read false = refl
-
-pending_read : (o : Option Command) → command_of (pending_code o) ≡ o
-unfolding command_of
-pending_read None = refl
-pending_read (Some c) = of_code c
 
 word_read : (w : ℕ) → low w + 256 * high w ≡ w
 word_read w = omega arith
@@ -68,7 +61,7 @@ direction_saved = below4 (λ d. direction_number (direction_numbered d) ≡ d) r
 
 saved_read : (c : Controller) → controller_of (saved_bytes c) ≡ c
 unfolding controller_of saved_bytes
-saved_read c = simp (flag_read, word_read, direction_read, pending_read)
+saved_read c = simp (flag_read, word_read, direction_read, of_pending_code)
 
 saved_in_layout : (c : Controller) → InLayout (saved_bytes c)
 unfolding saved_bytes is_saved
@@ -76,7 +69,7 @@ saved_in_layout c =
     record {
       saved = refl;
       flags = search flag_below;
-      pending = rw pending_read;
+      pending = rw of_pending_code;
       direction = direction_below c.registers.cursor.direction;
       reserved = (refl, (refl, (refl, (refl, (refl, tt)))));
     }

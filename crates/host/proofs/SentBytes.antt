@@ -1,14 +1,11 @@
 -- Records that are sent byte by byte.
-use Rattle.std.proofs.Common.{◌≡◌, ℕ, zero, suc, ◌+◌, ◌<◌, ◌≤◌, Bool, true, false, Option, None, Some, Result, Ok, Err, is_err, List, [], ◌∷◌, ◌++◌, map, length, get_or, take, drop, set, replicate, sym, refl, ap, ◌∙◌, zero-le, lt_of_le_of_lt, zero-add, add-one, arith, length-drop, length-take-le, get_or-drop, get_or-take, take-suc, take-suc-set, ext_get_or, take-add, ltb-true, eqb-true}
-use Rattle.std.specs.Int.{from_bool}
+use Rattle.std.proofs.Common.{◌≡◌, ℕ, zero, suc, ◌+◌, ◌<◌, ◌≤◌, Bool, true, false, Option, None, Some, List, [], ◌∷◌, ◌++◌, map, length, get_or, take, drop, set, replicate, sym, refl, ap, ◌∙◌, zero-le, lt_of_le_of_lt, zero-add, add-one, arith, length-drop, length-take-le, get_or-drop, get_or-take, take-suc, take-suc-set, ext_get_or, take-add, ltb-true, eqb-true}
 use Rattle.std.proofs.Math.Bool.{and-false}
 use Rattle.std.proofs.lemmas.List.{map-append, length-map, length-replicate, get_or-replicate}
 use Rattle.choice.specs.Choice.{◌<?◌, ◌=?◌}
 use Rattle.std.proofs.lemmas.Bool.{and_parts}
 use Rattle.choice.proofs.Cases.{choose}
-use Rattle.registers.specs.declared.Refusal.{Refusal}
-use Rattle.registers.specs.Refusals.{Reply, number, accepted, reply}
-use Rattle.registers.proofs.Numbers.{number_not_0}
+use Rattle.registers.specs.Refusals.{Reply, accepted}
 use Rattle.model.specs.declared.Controller.{Controller}
 use Rattle.model.specs.Machine.{Machine, Outcome, machine}
 use Rattle.model.specs.Bus.{command_write, data_write}
@@ -41,14 +38,6 @@ calls-append (x ∷ xs) ys h = rw (map-append write xs ys)
 
 pub one_refusal : (n : ℕ) → refusal_count n ≤ 1
 one_refusal n = choose (λ (k : ℕ). k ≤ 1) (n =? 0) 0 1 (λ h. zero-le) (λ h. omega arith)
-
--- a call is counted where its answer is a refusal
-count_of : (a : Result Unit Refusal) → from_bool (is_err a) ≡ refusal_count (reply a).refusal
-count_of (Ok tt) = refl
-count_of (Err r) = choose (λ (k : ℕ). 1 ≡ k) (number r =? 0) 0 1 (λ h. absurd (number_not_0 r (eqb-true _ _ h))) (λ h. refl)
-
-pub counted : (a : Result Unit Refusal) {is : Bool} {n r : ℕ} → is ≡ is_err a → r ≡ from_bool is → n ≡ (reply a).refusal → r ≡ refusal_count n
-counted a e count number = rw (count, e, number) (count_of a)
 
 refusals_within : (ns : List ℕ) → refusals ns ≤ length ns
 refusals_within [] = zero-le

@@ -1,16 +1,16 @@
 -- Reference, 'The library': a controller as 48 bytes, words low byte first, a flag 0 or 1.
 use Rattle.std.specs.Prelude.{ℕ, ◌+◌, ◌*◌, ◌/◌, ◌%◌, ◌<◌, Bool, true, ◌&&◌, Option, None, Some, List, [], ◌∷◌, ◌≡◌, length, get_or}
 use Rattle.choice.specs.Choice.{when◌then◌else◌, ◌<?◌, ◌=?◌}
-use Rattle.registers.specs.declared.Command.{Command}
 use Rattle.registers.specs.declared.Direction.{Direction}
 use Rattle.registers.specs.declared.Direction.TheVariants.{Right, Left, Up, Down}
 use Rattle.registers.specs.declared.Code.{Code}
 use Rattle.registers.specs.declared.System.{System}
 use Rattle.registers.specs.declared.Blocks.{Blocks}
 use Rattle.registers.specs.declared.Registers.{Registers}
-use Rattle.registers.specs.Commands.{command_of, code}
+use Rattle.registers.specs.Commands.{command_of}
 use Rattle.registers.specs.Counts.{code_of}
 use Rattle.registers.specs.Parameters.{direction_of}
+use Rattle.registers.specs.Pending.{pending_code}
 use Rattle.model.specs.declared.Controller.{Controller}
 use Rattle.model.specs.Refresh.{All, Byte}
 
@@ -89,10 +89,6 @@ saved_controller s = when is_saved s then Some (controller_of s) else None
 
 abbrev pub flag : Bool → ℕ
 flag b = when b then 1 else 0
-
-abbrev pub pending_code : Option Command → ℕ
-pending_code None = 0
-pending_code (Some command) = code command
 
 abbrev pub low : ℕ → ℕ
 low w = w % 256

@@ -1,11 +1,12 @@
 // Saved controllers: the 48 bytes read and written.
 ghost use Rattle.std.specs.Prelude.{◌≡◌, [], ◌∷◌, length};
-ghost use Rattle.host.specs.Saved.{saved_controller, direction_numbered, system_of, blocks_of, registers_of, flag, low, high, pending_code, direction_number, saved_bytes};
+ghost use Rattle.host.specs.Saved.{saved_controller, direction_numbered, system_of, blocks_of, registers_of, flag, low, high, direction_number, saved_bytes};
 
 use crate::SAVED_LENGTH;
 use model::{Controller, Pending};
 use registers::{
     Blocks, Code, Command, Cursor, CursorForm, Direction, Display, Overlay, Registers, System,
+    pending_code,
 };
 
 // A direction above 3 is read as 0.
@@ -104,7 +105,7 @@ pub fn read(bytes: &[u8]) -> Option<Controller>
     })
 }
 
-// A field as bytes, here and in the next three: a clause each in the words of the definition, by which the check finds the 48 bytes.
+// A field as bytes, here and in the next two: a clause each in the words of the definition, by which the check finds the 48 bytes.
 fn flag(b: bool) -> u8
     ensures { result ≡ flag b }
 {
@@ -116,12 +117,6 @@ fn word(w: u16) -> [u8; 2]
     ensures { result ≡ low w ∷ high w ∷ [] }
 {
     w.to_le_bytes()
-}
-
-fn pending_code(command: Option<Command>) -> u8
-    ensures { result ≡ pending_code command }
-{
-    command.map_or(0, u8::from)
 }
 
 fn direction_number(direction: Direction) -> u8

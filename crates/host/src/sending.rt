@@ -1,14 +1,23 @@
 // A record of kind 1: a command byte and its data writes, with an answer byte for each.
 ghost use Rattle.std.specs.Prelude.{◌<◌, ◌≡◌, length};
+ghost use Rattle.registers.specs.Refusals.{reply};
 ghost use Rattle.model.specs.Machine.{machine};
 ghost use Rattle.host.specs.Calls.{returned};
-ghost use Rattle.host.specs.Sending.{fits, nothing_sent, send_outcome, sent_outcome, send_returned, after_send};
+ghost use Rattle.host.specs.Sending.{fits, refusal_count, nothing_sent, send_outcome, sent_outcome, send_returned, after_send};
 
 use crate::NOTHING_SENT;
 use crate::calls::number;
 use crate::saved::{read, write};
 use dots::clear;
 use model::Controller;
+use registers::Refusal;
+
+// 1 where a call is refused.
+fn refusal_count(answer: Result<(), Refusal>) -> u32
+    ensures { result ≡ refusal_count (reply answer).refusal }
+{
+    u32::from(answer.is_err())
+}
 
 // The first data writes that go into memory are one run, and answered by the zeros that are there already.
 fn send(c: Controller, memory: &mut [u8], bytes: &[u8], answers: &mut [u8]) -> (Controller, u32)
@@ -19,14 +28,14 @@ fn send(c: Controller, memory: &mut [u8], bytes: &[u8], answers: &mut [u8]) -> (
     clear(answers);
     let (c, first) = c.command_write(bytes[0]);
     answers[0] = number(first);
-    let mut refused = u32::from(first.is_err());
+    let mut refused = refusal_count(first);
     let (mut c, taken) = c.write_run(memory, &bytes[1..]);
     // By the place: of what is written through `zip` std says nothing.
     for i in 1 + taken..bytes.len() {
         let (next, answer) = c.data_write(memory, bytes[i]);
         c = next;
         answers[i] = number(answer);
-        refused += u32::from(answer.is_err());
+        refused += refusal_count(answer);
     }
     (c, refused)
 }

@@ -5,11 +5,14 @@ mod commands;
 mod groups;
 mod layout;
 mod movement;
+mod pending;
 mod refusals;
 mod store;
 
 ghost use Rattle.std.specs.Prelude.{◌≡◌};
 ghost use Rattle.registers.specs.Counts.{count};
+
+pub use pending::{pending_allows, pending_code, pending_parameters};
 
 // How many bytes display memory has, and the font.
 pub const MEMORY_SIZE: usize = 32768;

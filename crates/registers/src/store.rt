@@ -35,7 +35,15 @@ impl Command {
             Command::Ovlay => b / 32 % 8 == 0,
             Command::HdotScr => b / 8 % 32 == 0,
             Command::GrayScale => b / 4 % 64 == 0 && b != 3,
-            _ => true,
+            Command::SleepIn
+            | Command::Disp
+            | Command::Scroll
+            | Command::CsrDir
+            | Command::CgramAdr
+            | Command::Csrw
+            | Command::Csrr
+            | Command::Mwrite
+            | Command::Mread => true,
         }
     }
 }
@@ -56,7 +64,17 @@ impl Registers {
             Command::SleepIn => self.asleep = true,
             Command::Disp => self.display.on = b == 0x59,
             Command::CsrDir => self.cursor.direction = Direction::of(b),
-            _ => {}
+            Command::SystemSet
+            | Command::Scroll
+            | Command::CsrForm
+            | Command::Ovlay
+            | Command::CgramAdr
+            | Command::HdotScr
+            | Command::GrayScale
+            | Command::Csrw
+            | Command::Csrr
+            | Command::Mwrite
+            | Command::Mread => {}
         }
     }
 
@@ -90,7 +108,8 @@ impl Registers {
                 }
             }
             Command::Csrw => store_word(&mut self.cursor.address, place, b),
-            _ => {}
+            Command::SleepIn | Command::CsrDir | Command::Csrr | Command::Mwrite | Command::Mread =>
+                {}
         }
     }
 }

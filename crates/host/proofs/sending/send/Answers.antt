@@ -1,12 +1,13 @@
 -- The loop starts behind the command byte and a run, whose answers are the zeros that were there; a turn sends a byte more.
-use Rattle.std.proofs.Common.{◌≡◌, ℕ, ◌+◌, ◌<◌, ◌≤◌, List, length, get_or, set, drop, ap, ◌∙◌, arith, length-set, length-drop, get_or-set_other}
+use Rattle.std.proofs.Common.{◌≡◌, ℕ, ◌+◌, ◌<◌, ◌≤◌, List, length, get_or, set, drop, sym, ap, ◌∙◌, arith, length-set, length-drop, get_or-set_other}
 use Rattle.std.proofs.lemmas.List.{take_rest}
 use Rattle.dots.specs.Tables.{table}
 use Rattle.dots.proofs.Tables.{length_table, element}
 use Rattle.model.specs.Machine.{machine}
 use Rattle.model.specs.WriteRun.{RunOutcome}
 use Rattle.model.proofs.WriteRuns.{run_within}
-use Rattle.host.proofs.SentBytes.{counted, one_refusal, command_sent, run_sent, write_sent}
+use Rattle.host.specs.Sending.{refusal_count}
+use Rattle.host.proofs.SentBytes.{one_refusal, command_sent, run_sent, write_sent}
 use Rattle.host.proofs.sending.send.Goals as goal
 
 -- answers that were cleared, the first of them told
@@ -29,7 +30,7 @@ loop-i-init c =
     let same = c.requires.2 in
     let as_long = told_length c.clear.new.line _ c.number.result cleared ∙ same in
     let room : 0 < length c.clear.new.line = rw (cleared, length_table, same) some in
-    let count = counted c.command_write-first.result.1 c.is_err.ensures.value c.from-refused.ensures c.number.ensures in
+    let count = c.refusal_count-refused.ensures ∙ ap refusal_count (sym c.number.ensures) in
     let first = command_sent (machine c.args.c c.args.memory.now) c.args.bytes.now c.clear.new.line some room (c.command_write-first.ensures c.args.memory.now) c.number.ensures count in
     record {
       sent = run_sent first (rw take_rest at c.write_run-taken.ensures) (told_zeros c.clear.new.line c.number.result cleared same) as_long;
@@ -41,7 +42,7 @@ pub loop-i-preserved : goal.loop-i-preserved
 loop-i-preserved c =
     let l = c.loop-i in
     let n = c.number-in-loop-i in
-    let count = counted c.data_write-answer.result.1 c.is_err-in-loop-i.ensures.value c.from-refused-in-loop-i.ensures n.ensures in
+    let count = c.refusal_count-refused-in-loop-i.ensures ∙ ap refusal_count (sym n.ensures) in
     record {
       sent = write_sent l.invariant.sent c.loop-i-test.true (rw l.invariant.as_long c.loop-i-test.true) c.data_write-answer.ensures n.ensures (ap (λ (k : ℕ). l.refused + k) count);
       few = rw count (omega (arith, l.invariant.few, one_refusal n.result));

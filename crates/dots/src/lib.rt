@@ -8,7 +8,7 @@ mod mixing;
 mod scrolling;
 
 pub use clearing::clear;
-pub use mixing::mix_bytes;
+pub use mixing::{mix_bytes, third_mix};
 pub use scrolling::expand_scrolled;
 
 // How layers are mixed.

@@ -67,8 +67,16 @@ pub fn mix_bytes(mix: Mix, depth: Depth, line: &mut [u8], layer: &[u8])
     }
 }
 
+// How layer 3 is mixed into the mix of layers 1 and 2, by the code of MX, whatever it is.
+#[tactic(auto, unfolding(crate::specs::MixedBytes::third_mix))]
+pub fn third_mix(mx: u8) -> u8
+    ensures { result ≡ third_mix mx }
+{
+    if mx < 3 { 0 } else { mx }
+}
+
 impl Mix {
-    // How layer 3 is mixed into the mix of layers 1 and 2.
+    // The same, by name.
     #[tactic(auto, unfolding(crate::specs::MixedBytes::third_mix))]
     pub fn third(self) -> Mix
         ensures { mix_code result ≡ third_mix (mix_code self) }

@@ -1,4 +1,5 @@
 pub mod Buffers
+pub mod Decimal
 pub mod Digits
 mod Examples
 pub mod Lengths

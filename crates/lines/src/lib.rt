@@ -30,6 +30,20 @@ pub struct Lines<'a> {
     pub used: usize,
 }
 
+// The lines that wait in the first bytes of a buffer.
+pub fn waiting(buffer: &[u8], used: usize) -> &[u8]
+    ensures { result.now ≡ take used buffer.now }
+{
+    buffer.get(..used).unwrap_or(buffer)
+}
+
+// How many more bytes it has room for.
+pub fn room(buffer: &[u8], used: usize) -> usize
+    ensures { result ≡ length buffer.now - used }
+{
+    buffer.len().saturating_sub(used)
+}
+
 impl<'a> Lines<'a> {
     pub fn new(buffer: &'a mut [u8]) -> Lines<'a>
         ensures used { result.used ≡ 0 }
@@ -43,14 +57,14 @@ impl<'a> Lines<'a> {
     pub fn waiting(&self) -> &[u8]
         ensures { result.now ≡ take self.now.used self.now.buffer.now }
     {
-        self.buffer.get(..self.used).unwrap_or(self.buffer)
+        waiting(self.buffer, self.used)
     }
 
     // How many more bytes there is room for.
     pub fn room(&self) -> usize
         ensures { result ≡ length self.now.buffer.now - self.now.used }
     {
-        self.buffer.len().saturating_sub(self.used)
+        room(self.buffer, self.used)
     }
 
     pub fn append_line(&mut self, line: Line)

@@ -1,6 +1,6 @@
 // Calls of the bus.
-ghost use Rattle.std.specs.Prelude.{◌≡◌, ℕ, ◌<◌, List};
-ghost use Rattle.model.specs.Machine.{reset_controller, machine, written_outcome, read_outcome, with_pending};
+ghost use Rattle.std.specs.Prelude.{◌≡◌, ℕ, ◌<◌, List, Err};
+ghost use Rattle.model.specs.Machine.{reset_controller, machine, ended, written_outcome, read_outcome, with_pending};
 ghost use Rattle.model.specs.Bus.{ignored, display_off, served, ◌serves◌, command_write, write_parameter, data_write, cursor_reads, address_byte, data_read};
 ghost use Rattle.model.specs.WriteRun.{run_outcome, write_run_outcome};
 
@@ -57,6 +57,15 @@ impl Controller {
         self.pending = Pending { command, place: 0 };
     }
 
+    // Refused, and the pending command ended.
+    fn end_refused(&mut self, refusal: Refusal) -> Result<(), Refusal>
+        ensures controller { self.new ≡ ended self.old }
+        ensures answer { result ≡ Err refusal }
+    {
+        self.set_pending(None);
+        Err(refusal)
+    }
+
     // The pending command that data writes and reads go to.
     #[tactic(auto, unfolding(crate::specs::Bus::served))]
     fn served(&self) -> Option<Command>
@@ -80,14 +89,14 @@ impl Controller {
     pub fn command_write_in_place(&mut self, b: u8) -> Result<(), Refusal>
         ensures { (memory : List ℕ) → written_outcome self.new result memory ≡ command_write (machine self.old memory) b }
     {
-        // A refused byte ends the pending command too.
-        self.set_pending(None);
-        let command = Command::try_from(b)?;
+        let Ok(command) = Command::try_from(b) else {
+            return self.end_refused(Refusal::UnknownCommand);
+        };
         if ignored(command, self.registers.asleep) {
-            return Err(Refusal::Asleep);
+            return self.end_refused(Refusal::Asleep);
         }
         if display_off(command, self.registers.display.on) {
-            return Err(Refusal::DisplayOff);
+            return self.end_refused(Refusal::DisplayOff);
         }
         self.registers.begin(command, b);
         self.set_pending(Some(command));
@@ -102,8 +111,7 @@ impl Controller {
     {
         let place = self.pending.place;
         if !command.allows(place, b) {
-            self.set_pending(None);
-            return Err(Refusal::NotAllowed);
+            return self.end_refused(Refusal::NotAllowed);
         }
         self.registers.store(command, place, b);
         self.pending.place = place + 1;

@@ -4,7 +4,7 @@ use Rattle.registers.specs.Sizes.{memory_size}
 use Rattle.model.specs.Refresh.{All, Byte}
 use Rattle.busfile.specs.Parts.{longest_record}
 use Rattle.lines.specs.Lines.{end_line, longest_line}
-use Rattle.session.specs.declared.Step.{Step}
+use Rattle.session.specs.declared.LentStep.{LentStep}
 use Rattle.session.specs.Output.{printed, OpenAfter}
 use Rattle.session.specs.Records.{lent}
 use Rattle.session.specs.File.{Progress, progress, start_of}
@@ -36,28 +36,28 @@ pub record Filled {R : Type 0} (at : ℕ) (input : Input R) (at' : ℕ) (input' 
   pub inside : InPart at' input'
 
 -- k steps are done of the file
-abbrev pub Done : {P R : Type 0} → List ℕ → Progress → ℕ → Step P → Input R → Type 0
-Done font start k step input =
-    SoFar font start k (progress step) step.session.output.open (at_hand input) input.ended
+abbrev pub Done : {P R : Type 0} → List ℕ → Progress → ℕ → LentStep P → Input R → Type 0
+Done font start k run input =
+    SoFar font start k (progress run) run.step.session.output.open (at_hand input) input.ended
 
 -- nothing is read and no step is done: reset beside cleared memory, and buffers that have room for the longest record and the longest line
-pub record Fresh {P R : Type 0} (step : Step P) (input : Input R) : Type 0 where
-  pub begun : progress step ≡ start_of (replicate memory_size 0) step.session.output.lines.buffer.now
-  pub takes : step.session.output.open ≡ true
-  pub room : longest_line ≤ length step.session.output.lines.buffer.now
+pub record Fresh {P R : Type 0} (run : LentStep P) (input : Input R) : Type 0 where
+  pub begun : progress run ≡ start_of (replicate memory_size 0) run.out.now
+  pub takes : run.step.session.output.open ≡ true
+  pub room : longest_line ≤ length run.out.now
   pub unread : input.filled ≡ 0
   pub goes_on : input.ended ≡ false
   pub roomy : longest_record ≤ length input.buffer.now
 
 -- a file is run from reset beside cleared memory: its records are carried out; then the last line stands behind theirs, and nothing is held any more
-pub record RunsFile {P : Type 0} (step step' : Step P) : Type 0 where
+pub record RunsFile {P : Type 0} (run run' : LentStep P) : Type 0 where
   pub last : Progress
   pub takes : Bool
-  pub ran : Ran step.session.font.now (start_of (replicate memory_size 0) step.session.output.lines.buffer.now) (2 ^ 64 - 1) last takes
-  pub memory_left : last.state.machine.memory ≡ step'.session.memory.now
-  pub ends : (printed last.state.output (end_line last.good)).bytes ≡ step'.session.output.lines.buffer.now
-  pub nothing_held : step'.session.output.lines.used ≡ 0
-  pub stays : OpenAfter takes true step'.session.output.open
-  pub same : lent step'.session ≡ lent step.session
+  pub ran : Ran run.font.now (start_of (replicate memory_size 0) run.out.now) (2 ^ 64 - 1) last takes
+  pub memory_left : last.state.machine.memory ≡ run'.memory.now
+  pub ends : (printed last.state.output (end_line last.good)).bytes ≡ run'.out.now
+  pub nothing_held : run'.step.session.output.used ≡ 0
+  pub stays : OpenAfter takes true run'.step.session.output.open
+  pub same : lent run' ≡ lent run
   -- so a file that stopped is printed whole
-  pub whole : last.more ≡ false → All Byte ran.file → PrintsAll step.session.font.now ran.file step.session.output.lines.buffer.now last
+  pub whole : last.more ≡ false → All Byte ran.file → PrintsAll run.font.now ran.file run.out.now last

@@ -6,42 +6,42 @@ ghost use Rattle.session.specs.Records.{lent};
 ghost use Rattle.panel.specs.Reading.{InPart, Done, Fresh, RunsFile};
 
 use crate::reading::Input;
-use session::Step;
+use session::LentStep;
 use std::io::Read;
 
 // Reads on, and carries the next record out.
-fn turn(step: &mut Step<'_, '_, impl Print>, input: &mut Input<'_, impl Read>)
-    requires { InPart step.old.at input.old }
-    ensures in_part { InPart step.new.at input.new }
+fn turn(run: &mut LentStep<'_, '_, '_, impl Print>, input: &mut Input<'_, impl Read>)
+    requires { InPart run.old.step.at input.old }
+    ensures in_part { InPart run.new.step.at input.new }
     ensures done { (start : Progress) (k : ℕ)
-        → Done step.old.session.font.now start k step.old input.old
-        → Done step.old.session.font.now start (suc k) step.new input.new }
-    ensures lent { lent step.new.session ≡ lent step.old.session }
+        → Done run.old.font.now start k run.old input.old
+        → Done run.old.font.now start (suc k) run.new input.new }
+    ensures lent { lent run.new ≡ lent run.old }
 {
-    step.at = input.read_on(step.at);
-    step.next(input.at_hand());
+    run.step.at = input.read_on(run.step.at);
+    run.next(input.at_hand());
 }
 
 // All records; a closed output stops the file. The count of turns, which no run uses up, is there so that the loop is seen to end.
-fn run_records(step: &mut Step<'_, '_, impl Print>, input: &mut Input<'_, impl Read>)
-    requires { Fresh step.old input.old }
-    ensures ran { Ran step.old.session.font.now (progress step.old) (2 ^ 64 - 1) (progress step.new)
-        step.new.session.output.open }
-    ensures lent { lent step.new.session ≡ lent step.old.session }
+fn run_records(run: &mut LentStep<'_, '_, '_, impl Print>, input: &mut Input<'_, impl Read>)
+    requires { Fresh run.old input.old }
+    ensures ran { Ran run.old.font.now (progress run.old) (2 ^ 64 - 1) (progress run.new)
+        run.new.step.session.output.open }
+    ensures lent { lent run.new ≡ lent run.old }
 {
     for _ in 0..u64::MAX {
-        turn(step, input);
-        if !(step.more && step.session.output.open) {
+        turn(run, input);
+        if !(run.step.more && run.step.session.output.open) {
             break;
         }
     }
 }
 
 // All records, and the line that ends the output.
-pub fn run_file(step: &mut Step<'_, '_, impl Print>, input: &mut Input<'_, impl Read>)
-    requires { Fresh step.old input.old }
-    ensures { RunsFile step.old step.new }
+pub fn run_file(run: &mut LentStep<'_, '_, '_, impl Print>, input: &mut Input<'_, impl Read>)
+    requires { Fresh run.old input.old }
+    ensures { RunsFile run.old run.new }
 {
-    run_records(step, input);
-    step.finish();
+    run_records(run, input);
+    run.finish();
 }

@@ -6,7 +6,7 @@ mod reading;
 
 use reading::Input;
 use registers::{FONT_SIZE, MEMORY_SIZE};
-use session::Step;
+use session::LentStep;
 
 fn main(rt: HostRuntime) {
     let mut memory = [0u8; MEMORY_SIZE];
@@ -16,7 +16,7 @@ fn main(rt: HostRuntime) {
     let mut buffer = [0u8; 131072];
     let mut out = [0u8; 65536];
     let size = reading::read_font(&rt, &mut font);
-    let mut step = Step::start(&rt, &mut memory, &font[..size], &mut out);
+    let mut run = LentStep::start(&rt, &mut memory, &font[..size], &mut out);
     let mut input = Input::new(rt.stdin(), &mut buffer);
-    file::run_file(&mut step, &mut input);
+    file::run_file(&mut run, &mut input);
 }

@@ -1,31 +1,26 @@
 -- Calls carried out one by one.
-use Rattle.std.proofs.Common.{◌≡◌, ℕ, suc, ◌+◌, ◌-◌, ◌<◌, ◌≤◌, Bool, List, [], ◌∷◌, ◌++◌, map, length, get_or, take, drop, replicate, sym, refl, ap, ◌∙◌, subst, inl, append-nil, add-zero, add-one, arith, take-append-drop, length-drop, length-take-le, drop-cons, drop-drop}
+use Rattle.std.proofs.Common.{◌≡◌, ℕ, suc, ◌+◌, ◌-◌, ◌<◌, ◌≤◌, List, [], ◌∷◌, ◌++◌, map, length, get_or, take, drop, replicate, sym, refl, ◌∙◌, subst, inl, append-nil, add-zero, add-one, arith, take-append-drop, length-drop, length-take-le, drop-cons, drop-drop}
 use Rattle.registers.specs.Refusals.{accepted}
 use Rattle.model.specs.Machine.{Machine, Outcome}
 use Rattle.model.specs.Calls.{BusCall, write, read, call, after, outcomes}
 use Rattle.model.specs.Refresh.{All}
 use Rattle.model.specs.WriteRun.{run_length, RunOutcome, run_outcome}
 use Rattle.model.proofs.WriteRuns.{run_within, run_accepted}
-use Rattle.session.specs.declared.Output.{Output}
-use Rattle.session.specs.declared.Session.{Session}
-use Rattle.session.specs.Output.{Buffer, printed_all, flushes, OpenAfter, Prints}
-use Rattle.session.specs.Records.{state, call_lines}
-use Rattle.session.specs.Carrying.{Live, live, CarriesOut, CarriesOutCalls}
+use Rattle.session.specs.Records.{call_lines}
+use Rattle.session.specs.Carrying.{Live, CarriesOut, Prints, CarriesOutCalls}
 use Rattle.session.proofs.Buffers.{printed_both, flushes_both, open_both}
 
 abbrev moved : Live → Machine → Live
 moved s m = record s { state = record { machine = m; output = s.state.output } }
 
 -- a call whose outcome is known and whose lines are printed
-pub one_call : (r k : ℕ) (s : Live) (c : BusCall) {w : Outcome} {o : Buffer} {takes : Bool} {which : ℕ} → w ≡ call s.state.machine c
-    → o ≡ printed_all s.state.output (call_lines r k c w.reply) → OpenAfter s.takes (flushes s.state.output (call_lines r k c w.reply)) takes
-    → which ≡ s.lent.buffer
-    → CarriesOutCalls r k (c ∷ []) s (record { state = record { machine = w.machine; output = o }; takes = takes; lent = record s.lent { buffer = which } })
-one_call r k s c h e f n =
+pub one_call : (r k : ℕ) (s : Live) (c : BusCall) {w : Outcome} {t : Live} → w ≡ call s.state.machine c
+    → Prints (call_lines r k c w.reply) (moved s w.machine) t → CarriesOutCalls r k (c ∷ []) s t
+one_call r k s c e h =
     record {
-      state = rw (e, h, append-nil);
-      stays = rw (append-nil, ← h) f;
-      same = ap (λ (which : ℕ). record s.lent { buffer = which }) n;
+      state = rw append-nil (rw e at h.state);
+      stays = rw append-nil (rw e at h.stays);
+      same = h.same;
     }
 
 pub no_calls : (r k : ℕ) (s : Live) (cs : List BusCall) → cs ≡ [] → CarriesOutCalls r k cs s s
@@ -41,16 +36,7 @@ call_first r k s c cs h rest =
       same = rest.same ∙ h.same;
     }
 
--- lines alone: those that an output prints, and lines after lines
-
-pub printed_lines : {P : Type 0} (s : Session P) {lines : List (List ℕ)} {o : Output P} → Prints lines s.output o → CarriesOut [] lines (live s) (live (record s { output = o }))
-printed_lines s h =
-    record {
-      state = ap (λ (b : Buffer). record { machine = (state s).machine; output = b }) h.text;
-      stays = h.stays;
-      same = ap (λ (n : ℕ). record { font = s.font.now; memory = s.memory.ghost_name; buffer = n }) h.same;
-    }
-
+-- lines after lines
 pub lines_both : (xs ys : List (List ℕ)) {s t u : Live} → CarriesOut [] xs s t → CarriesOut [] ys t u → CarriesOut [] (xs ++ ys) s u
 lines_both xs ys h rest =
     record {
@@ -76,7 +62,7 @@ writes_first r k s [] cs all rest = rw add-zero at rest
 writes_first r k s (b ∷ bs) cs all rest =
     let m = s.state.machine in
     call_first r k s (write b) (map write (bs ++ cs))
-    (one_call r k s (write b) refl (rw all.0) (rw all.0 (inl refl)) refl)
+    (one_call r k s (write b) refl (record { state = rw all.0 refl; stays = rw all.0 (inl refl); same = refl }))
     (writes_first r (k + 1) (moved s (call m (write b)).machine) bs cs all.1 (rw further at rest))
   where
     further : k + suc (length bs) ≡ k + 1 + length bs

@@ -11,11 +11,8 @@ use Rattle.row.proofs.Accepting.{other_row, wide_refused}
 use Rattle.model.specs.Machine.{Machine}
 use Rattle.lines.specs.Lines.{refused_line, frame_line, row_line}
 use Rattle.session.specs.Records.{row_of, row_lines, framed, frame_lines}
-use Rattle.session.specs.Output.{Prints}
-use Rattle.session.specs.Carrying.{Live, live, CarriesOut}
-use Rattle.session.specs.declared.Output.{Output}
-use Rattle.session.specs.declared.Session.{Session}
-use Rattle.session.proofs.Calls.{printed_lines, lines_both}
+use Rattle.session.specs.Carrying.{Live, CarriesOut, Prints}
+use Rattle.session.proofs.Calls.{lines_both}
 
 -- one row more
 pub rows_more : (row : ℕ → RowAnswer) (n k : ℕ) → row_lines row n (suc k) ≡ row_lines row n k ++ row_line (row (n + k)).dots ∷ []
@@ -28,9 +25,9 @@ rows_more row n (suc k) =
     further = omega arith
 
 -- it prints the row's dots
-pub row_printed : {P : Type 0} (row : ℕ → RowAnswer) (n : ℕ) (s : Session P) {dots : List ℕ} {o : Output P} → dots ≡ (row n).dots
-    → Prints (row_line dots ∷ []) s.output o → CarriesOut [] (row_line (row n).dots ∷ []) (live s) (live (record s { output = o }))
-row_printed row n s d e = rw (← d) (printed_lines s e)
+pub row_printed : (row : ℕ → RowAnswer) (n : ℕ) {dots : List ℕ} {s t : Live} → dots ≡ (row n).dots
+    → Prints (row_line dots ∷ []) s t → Prints (row_line (row n).dots ∷ []) s t
+row_printed row n d e = rw (← d) e
 
 -- a frame whose first row is refused
 pub refused_lines : (r frame size rows : ℕ) (row : ℕ → RowAnswer) (a : Result Unit Refusal) {refusal : Refusal} → a ≡ Err refusal → (reply a).refusal ≡ (row 0).refusal

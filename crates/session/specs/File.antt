@@ -8,8 +8,9 @@ use Rattle.lines.specs.Lines.{bad_line}
 use Rattle.model.specs.Machine.{Machine}
 use Rattle.model.specs.Calls.{reset}
 use Rattle.session.specs.declared.Step.{Step}
+use Rattle.session.specs.declared.LentStep.{LentStep}
 use Rattle.session.specs.Output.{buffer, printed_all}
-use Rattle.session.specs.Records.{State, state, after_record, record_lines}
+use Rattle.session.specs.Records.{State, state_with, after_record, record_lines}
 
 -- how far a file is: the state, where the next record stands, how many records were good, and whether the file goes on
 pub record Progress : Type 0 where
@@ -18,9 +19,13 @@ pub record Progress : Type 0 where
   pub good : ℕ
   pub more : Bool
 
--- the progress that a step stands for
-abbrev pub progress : {P : Type 0} → Step P → Progress
-progress s = record { state = state s.session; at = s.at; good = s.good; more = s.more }
+-- the progress that a step stands for, beside memory and the bytes of the output's buffer
+abbrev pub progress_with : Step → List ℕ → List ℕ → Progress
+progress_with s memory out = record { state = state_with s.session memory out; at = s.at; good = s.good; more = s.more }
+
+-- the progress that a lent one stands for
+abbrev pub progress : {P : Type 0} → LentStep P → Progress
+progress s = progress_with s.step s.memory.now s.out.now
 
 -- a program starts from reset, beside memory and an output buffer
 abbrev pub start_of : List ℕ → List ℕ → Progress

@@ -3,7 +3,6 @@
 use Rattle.std.specs.Prelude.{◌≡◌, ℕ, ◌+◌, Bool, true, false, ◌||◌, ◌⊎◌, List, [], ◌∷◌, length}
 use Rattle.choice.specs.Choice.{when◌then◌else◌, ◌<?◌}
 use Rattle.lines.specs.Lines.{appended, used_after, longest_line}
-use Rattle.session.specs.declared.Output.{Output}
 
 pub record Buffer : Type 0 where
   pub bytes : List ℕ
@@ -11,9 +10,6 @@ pub record Buffer : Type 0 where
 
 abbrev pub buffer : List ℕ → ℕ → Buffer
 buffer bytes used = record { bytes = bytes; used = used }
-
-abbrev pub buffer_of : {P : Type 0} → Output P → Buffer
-buffer_of o = buffer o.lines.buffer.now o.lines.used
 
 -- there is less room than for the longest line
 abbrev pub is_full : Buffer → Bool
@@ -39,9 +35,3 @@ flushes b (line ∷ lines) = is_full b || flushes (printed b line) lines
 -- written out; otherwise it stays as it was, and it never opens again
 abbrev pub OpenAfter : Bool → Bool → Bool → Type 0
 OpenAfter before written after = (after ≡ before) ⊎ ((written ≡ true) × (after ≡ false))
-
--- lines are printed, into the same buffer
-pub record Prints {P : Type 0} (lines : List (List ℕ)) (o o' : Output P) : Type 0 where
-  pub text : buffer_of o' ≡ printed_all (buffer_of o) lines
-  pub stays : OpenAfter o.open (flushes (buffer_of o) lines) o'.open
-  pub same : o'.lines.buffer.ghost_name ≡ o.lines.buffer.ghost_name

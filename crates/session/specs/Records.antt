@@ -10,7 +10,8 @@ use Rattle.busfile.specs.declared.Kind.TheVariants.{Bus, Reads, Frame}
 use Rattle.busfile.specs.Records.{word_of, double_word_of}
 use Rattle.lines.specs.Lines.{refused_line, read_line, frame_line, row_line}
 use Rattle.session.specs.declared.Session.{Session}
-use Rattle.session.specs.Output.{Buffer, buffer_of, printed_all}
+use Rattle.session.specs.declared.LentStep.{LentStep}
+use Rattle.session.specs.Output.{Buffer, buffer, printed_all}
 
 -- The calls of a record: a command byte, then its data writes; a count of reads
 
@@ -71,9 +72,16 @@ pub record State : Type 0 where
   pub machine : Machine
   pub output : Buffer
 
--- the state that a session stands for
-abbrev pub state : {P : Type 0} → Session P → State
-state s = record { machine = machine s.controller s.memory.now; output = buffer_of s.output }
+-- the state that a session stands for, beside memory and the bytes of the output's buffer
+abbrev pub state_with : Session → List ℕ → List ℕ → State
+state_with s memory out = record { machine = machine s.controller memory; output = buffer out s.output.used }
+
+-- the state that a lent step stands for, and the output's buffer alone
+abbrev pub state : {P : Type 0} → LentStep P → State
+state s = state_with s.step.session s.memory.now s.out.now
+
+abbrev pub buffer_of : {P : Type 0} → LentStep P → Buffer
+buffer_of s = (state s).output
 
 -- what it is lent: the bytes of the font, and which memory and which buffer
 pub record Lent : Type 0 where
@@ -81,8 +89,8 @@ pub record Lent : Type 0 where
   pub memory : ℕ
   pub buffer : ℕ
 
-abbrev pub lent : {P : Type 0} → Session P → Lent
-lent s = record { font = s.font.now; memory = s.memory.ghost_name; buffer = s.output.lines.buffer.ghost_name }
+abbrev pub lent : {P : Type 0} → LentStep P → Lent
+lent s = record { font = s.font.now; memory = s.memory.ghost_name; buffer = s.out.ghost_name }
 
 -- calls carried out, and lines printed
 abbrev pub carried_out : State → List BusCall → List (List ℕ) → State

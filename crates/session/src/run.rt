@@ -3,16 +3,16 @@ ghost use Rattle.std.specs.Prelude.{◌<◌, [], ◌∷◌, map, length, drop, r
 ghost use Rattle.model.specs.Calls.{command, write, read, bus_calls};
 ghost use Rattle.session.specs.Carrying.{live, CarriesOutCalls, CarriesOutRecord};
 
-use crate::Session;
+use crate::LentStep;
 use busfile::Kind;
 
-impl<P: Print> Session<'_, '_, P> {
+impl<P: Print> LentStep<'_, '_, '_, P> {
     // The command byte of a kind 1 record.
     fn run_command(&mut self, b: u8, record: u64)
         ensures { CarriesOutCalls «record» 1 (command b ∷ []) (live self.old) (live self.new) }
     {
-        let answer = self.controller.command_write_in_place(b);
-        self.output.print_answer(answer, record, 1);
+        let answer = self.step.session.controller.command_write_in_place(b);
+        self.print_answer(answer, record, 1);
     }
 
     // The bytes of a kind 1 record behind its command byte. The first of them that go into memory print nothing, and are written as one run.
@@ -22,12 +22,15 @@ impl<P: Print> Session<'_, '_, P> {
             (live self.old) (live self.new) }
     {
         let length = self
+            .step
+            .session
             .controller
             .write_run_in_place(self.memory, &payload[1..]);
         // By the place, which is the byte's number in a line.
         for i in 1 + length..payload.len() {
-            let answer = self.controller.data_write_in_place(self.memory, payload[i]);
-            self.output.print_answer(answer, record, i as u64 + 1);
+            let controller = &mut self.step.session.controller;
+            let answer = controller.data_write_in_place(self.memory, payload[i]);
+            self.print_answer(answer, record, i as u64 + 1);
         }
     }
 
@@ -46,8 +49,8 @@ impl<P: Print> Session<'_, '_, P> {
     {
         // Lent as `&mut`: what stands behind a field that was lent as `&` the check does not know afterwards.
         let memory = &mut *self.memory;
-        let answer = self.controller.data_read_in_place(memory);
-        self.output.print_read(answer, record, index);
+        let answer = self.step.session.controller.data_read_in_place(memory);
+        self.print_read(answer, record, index);
     }
 
     // A count of reads.

@@ -6,11 +6,11 @@ use Rattle.panel.proofs.main.Goals as goal
 
 pub run_file-requires : goal.run_file-requires
 run_file-requires c =
-    let begun = c.start-step.ensures.value in
+    let begun = c.start-run.ensures.value in
     let out = ap (λ (p : Progress). p.state.output.bytes) begun in
     record {
       begun = begun ∙ ap (start_of (replicate memory_size 0)) (sym out);
-      takes = c.start-step.ensures.open_value;
+      takes = c.start-run.ensures.open_value;
       room = rw (out, length-replicate) (lit≤ tt);
       unread = c.new-input.ensures.unread.0;
       goes_on = c.new-input.ensures.unread.1;

@@ -7,12 +7,12 @@ use Rattle.panel.proofs.file.run_file.Goals as goal
 
 pub returns : goal.returns
 returns g c =
-    let s = c.args.step.now in
-    let font = s.session.font.now in
-    let out = s.session.output.lines.buffer.now in
+    let s = c.args.run.now in
+    let font = s.font.now in
+    let out = s.out.now in
     let r = c.run_records in
-    let last = progress r.new.step in
-    let takes = r.new.step.session.output.open in
+    let last = progress r.new.run in
+    let takes = r.new.run.step.session.output.open in
     let cleared : Ran font (start_of (replicate memory_size 0) out) (2 ^ 64 - 1) last takes =
     subst (λ (p : Progress). Ran font p (2 ^ 64 - 1) last takes) c.requires.begun r.ensures.ran in
     record {

@@ -7,6 +7,6 @@ use Rattle.panel.proofs.file.run_records.Given as goal
 
 abbrev pub invariant-loop : goal.invariant-loop
 invariant-loop g l =
-    Done l.initial.step.session.font.now (progress l.initial.step) l.counter l.step l.input
-    × InPart l.step.at l.input
-    × (lent l.step.session ≡ lent l.initial.step.session)
+    Done l.initial.run.font.now (progress l.initial.run) l.counter l.run l.input
+    × InPart l.run.step.at l.input
+    × (lent l.run ≡ lent l.initial.run)

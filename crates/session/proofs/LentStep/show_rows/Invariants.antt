@@ -3,7 +3,7 @@ use Rattle.std.proofs.Common.{ℕ, [], length}
 use Rattle.row.specs.Rows.{RowAnswer}
 use Rattle.session.specs.Records.{state, row_of, row_lines}
 use Rattle.session.specs.Carrying.{live, CarriesOut}
-use Rattle.session.proofs.Session.show_rows.Given as goal
+use Rattle.session.proofs.LentStep.show_rows.Given as goal
 
 abbrev pub invariant-loop-n : goal.invariant-loop-n
 invariant-loop-n g l =

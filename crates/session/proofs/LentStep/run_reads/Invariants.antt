@@ -2,7 +2,7 @@
 use Rattle.std.proofs.Common.{◌+◌, ◌-◌, replicate}
 use Rattle.model.specs.Calls.{read}
 use Rattle.session.specs.Carrying.{Live, live, CarriesOutCalls}
-use Rattle.session.proofs.Session.run_reads.Given as goal
+use Rattle.session.proofs.LentStep.run_reads.Given as goal
 
 abbrev pub invariant-loop-i : goal.invariant-loop-i
 invariant-loop-i g l =

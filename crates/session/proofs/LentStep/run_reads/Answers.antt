@@ -1,7 +1,7 @@
 use Rattle.std.proofs.Common.{◌≡◌, ℕ, ◌+◌, ◌-◌, replicate, ap, arith}
 use Rattle.model.specs.Calls.{read}
 use Rattle.session.proofs.Calls.{read_more, no_calls}
-use Rattle.session.proofs.Session.run_reads.Goals as goal
+use Rattle.session.proofs.LentStep.run_reads.Goals as goal
 
 pub loop-i-preserved : goal.loop-i-preserved
 loop-i-preserved g c = λ u rest. c.loop-i.invariant u (read_more _ _ _ _ c.loop-i-test.true (rw c.into.ensures at c.run_read.ensures) rest)

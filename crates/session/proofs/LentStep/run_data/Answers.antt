@@ -3,7 +3,7 @@ use Rattle.std.proofs.lemmas.List.{take_rest}
 use Rattle.model.specs.Calls.{write}
 use Rattle.session.specs.Carrying.{live}
 use Rattle.session.proofs.Calls.{one_call, data_more, run_first, run_in_data, no_calls}
-use Rattle.session.proofs.Session.run_data.Goals as goal
+use Rattle.session.proofs.LentStep.run_data.Goals as goal
 
 pub overflow_step-i : goal.overflow_step-i
 overflow_step-i g c = omega (arith, run_in_data c.args.payload.now _ (rw take_rest at c.write_run_in_place-length.ensures))
@@ -13,8 +13,7 @@ loop-i-preserved g c =
     let a = c.args in
     let l = c.loop-i in
     let now = live l.self in
-    let printed = c.print_answer.ensures in
-    let one = one_call a.«record» (l.i + 1) now (write (get_or a.payload.now l.i 0)) c.data_write_in_place-answer.ensures printed.text printed.stays printed.same in
+    let one = one_call a.«record» (l.i + 1) now (write (get_or a.payload.now l.i 0)) c.data_write_in_place-answer.ensures c.print_answer.ensures in
     λ u rest. l.invariant u (data_more a.«record» l.i a.payload.now now c.loop-i-test.true one rest)
 
 pub returns : goal.returns

@@ -2,7 +2,7 @@ use Rattle.std.proofs.Common.{◌≡◌, ℕ, length, take, min, replicate, ap, 
 use Rattle.row.specs.declared.FrameSize.{FrameSize}
 use Rattle.session.specs.Records.{state}
 use Rattle.session.proofs.FrameLines.{in_640}
-use Rattle.session.proofs.Session.show.Goals as goal
+use Rattle.session.proofs.LentStep.show.Goals as goal
 
 pub returns : goal.returns
 returns g c =

@@ -2,7 +2,7 @@
 use Rattle.std.proofs.Common.{◌+◌, map, drop}
 use Rattle.model.specs.Calls.{write}
 use Rattle.session.specs.Carrying.{Live, live, CarriesOutCalls}
-use Rattle.session.proofs.Session.run_data.Given as goal
+use Rattle.session.proofs.LentStep.run_data.Given as goal
 
 abbrev pub invariant-loop-i : goal.invariant-loop-i
 invariant-loop-i g l =
